@@ -1,0 +1,11 @@
+pub mod Actions
+pub mod Points
+pub mod Polynomials
+pub mod Lagrange
+pub mod Theorems
+pub mod TupleSums
+pub mod TupleModule
+pub mod Places
+pub mod RowLists
+pub mod PrimeNumbers
+pub mod Dealings

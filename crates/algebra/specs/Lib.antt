@@ -1,0 +1,11 @@
+pub mod Group
+pub mod Module
+pub mod Scalars
+pub mod Sharing
+pub mod Tuples
+pub mod Valid
+pub mod Space
+pub mod Theorems
+pub mod Primes
+pub mod Rows
+pub mod Dealing

@@ -1,0 +1,7 @@
+-- The number and the place of each refusal of a group.
+use Prim.Native.Nat.{ℕ}
+use Rattle.groups.specs.declared.fault.GroupFault.{GroupFault}
+use Rattle.groups.specs.declared.fault.GroupFault.the-variants.{Modulus}
+
+abbrev pub refusal : GroupFault → ℕ × ℕ
+refusal Modulus = (2, 0)

@@ -1,0 +1,4 @@
+pub mod Refusals
+pub mod SharedOut
+pub mod Telling
+pub mod Stepping

@@ -1,0 +1,4 @@
+pub mod Ledgers
+pub mod Calls
+pub mod Rules
+pub mod Steps

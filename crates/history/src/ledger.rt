@@ -1,0 +1,51 @@
+ghost use mathlib.Core.Path.{_≡_};
+ghost use Prim.Native.Nat.{_+_};
+ghost use Rattle.std.specs.Options.{Cases};
+ghost use Rattle.history.specs.Ledgers.{fresh, is-present, at-epoch};
+
+// The most holders that a scheme can have.
+const MOST_HOLDERS: usize = 30;
+
+// What is recorded of a holder: whether the share is present, and the epoch at which that last changed.
+#[derive(Clone, Copy)]
+pub struct Holder {
+    pub present: bool,
+    pub changed: u32,
+}
+
+// The public part of a cabinet's state: how many deals it has accepted, and its holders from number 1 on.
+#[derive(Clone, Copy)]
+pub struct Ledger {
+    pub epoch: u32,
+    pub holders: [Holder; MOST_HOLDERS],
+}
+
+impl Ledger {
+    // Epoch 0, and every holder present.
+    pub fn new() -> Self
+        ensures { λ r. ⌜ r ≡ fresh ⌝ }
+    {
+        let holder = Holder {
+            present: true,
+            changed: 0,
+        };
+        Ledger {
+            epoch: 0,
+            holders: [holder; MOST_HOLDERS],
+        }
+    }
+
+    // Whether a holder's share is present; a number that no scheme has is not.
+    pub fn is_present(&self, holder: u32) -> bool
+        ensures { λ r. ⌜ r ≡ is-present (now (self .entry) .holders) holder ⌝ }
+    {
+        let number = holder as usize;
+        if number < 1 {
+            return false;
+        }
+        if number > MOST_HOLDERS {
+            return false;
+        }
+        self.holders[number - 1].present
+    }
+}

@@ -1,0 +1,10 @@
+pub mod HelperLists
+pub mod Acting
+pub mod Indices
+pub mod Weights
+pub mod Horner
+pub mod Summing
+pub mod ShareRows
+pub mod Verdicts
+pub mod Choosing
+pub mod Interpolating
