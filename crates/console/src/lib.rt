@@ -1,0 +1,4 @@
+// The console: a line comes in, the cabinet does what it says, and an answer comes out.
+pub mod console;
+pub mod fault;
+pub mod seat;

@@ -1,0 +1,51 @@
+use custody::cabinet::Cabinet;
+use groups::group::Group;
+use sharing::fault::CabinetFault;
+use sharing::scheme::Scheme;
+use std::alloc::AllocError;
+use std::alloc::Global;
+ghost use mathlib.Core.Path.{_≡_};
+ghost use Rattle.std.specs.Vec.{made as built};
+ghost use Rattle.history.specs.Calls.{depositing, opening, epoch-is, key-is, answered};
+ghost use Rattle.console.specs.Seats.{kept-of, Called, New};
+
+// A cabinet and the memory that it is lent.
+#[derive(Drop)]
+pub struct Seat<G> {
+    cabinet: Cabinet<G>,
+    shares: Vec<u32>,
+    working: Vec<u32>,
+}
+
+impl<G: Group<Element = u32>> Seat<G> {
+    // A new cabinet with the number 0, in memory of its own.
+    pub fn make(heap: Global, group: G, scheme: Scheme) -> Result<Self, AllocError>
+    where
+        G: Drop,
+        ensures { λ r. ⌜ built r (λ s. New (λ g. ops g) group scheme (kept-of s)) ⌝ }
+    {
+        let mut shares = vec![in heap; 0u32; scheme.share_length()]?;
+        let working = vec![in heap; 0u32; scheme.working_length()]?;
+        let cabinet = Cabinet::make(group, scheme, 0, shares.as_mut_slice());
+        Ok(Seat {
+            cabinet,
+            shares,
+            working,
+        })
+    }
+
+    pub fn deposit(&mut self, key: u32, coefficients: &[u32]) -> Result<u32, CabinetFault>
+        ensures { λ r. ⌜ Called (λ g. ops g) (kept-of (now (self .entry))) (depositing key (now (coefficients .entry))) (answered epoch-is r) (kept-of (now (self .exit))) ⌝ }
+    {
+        let shares = self.shares.as_mut_slice();
+        let working = self.working.as_mut_slice();
+        self.cabinet.deposit(key, coefficients, shares, working)
+    }
+
+    pub fn open(&mut self, helpers: &[u32]) -> Result<u32, CabinetFault>
+        ensures { λ r. ⌜ Called (λ g. ops g) (kept-of (now (self .entry))) (opening (now (helpers .entry))) (answered key-is r) (kept-of (now (self .exit))) ⌝ }
+    {
+        let working = self.working.as_mut_slice();
+        self.cabinet.open(helpers, self.shares.as_slice(), working)
+    }
+}
