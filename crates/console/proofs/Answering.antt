@@ -1,14 +1,14 @@
 -- What the letters ask for, as the console answers it.
-use mathlib.Core.Path.{_≡_, refl, sym, ap, ap₂, subst, _∙_}
+use mathlib.Core.Path.{_≡_, refl, sym, ap, subst, _∙_}
 use mathlib.Core.Bool.{Bool, true, false, cond}
 use mathlib.Core.List.{List, [], _∷_, _++_}
 use Prim.Native.Nat.{ℕ, zero, suc, _+_, _-_, _≤_}
 use native.Mathlib.Omega.{arith}
 use lib.Dec.{eqb, ltb}
 use lib.ListN.{length, getD, take, drop}
-use Rattle.std.proofs.shelf.Lists.{take-all, length-drop}
 use Rattle.std.proofs.shelf.Tests.{ltb-false}
 use Rattle.std.specs.Options.{mapped, isSome}
+use Rattle.std.specs.Results.{Cases}
 use Rattle.std.specs.declared.option.Option.{Option}
 use Rattle.std.specs.declared.option.Option.the-variants.{Some, None}
 use Rattle.std.specs.declared.result.Result.{Result}
@@ -16,44 +16,30 @@ use Rattle.std.specs.declared.result.Result.the-variants.{Ok, Err}
 use Rattle.lines.specs.declared.letter.Letter.{Letter}
 use Rattle.lines.specs.declared.fault.LineFault.{LineFault}
 use Rattle.lines.specs.declared.fault.LineFault.the-variants.{Unreadable}
-use Rattle.console.specs.declared.fault.ConsoleFault.the-variants.{Line}
 use Rattle.lines.specs.Lines.{Read, good, bad, least, fine, front-digits, value-after, read-fields, after-letter, first-letter, read-line, Tells}
-use Rattle.groups.specs.declared.sums.Sums.{Sums}
+use Rattle.groups.specs.declared.fault.GroupFault.{GroupFault}
+use Rattle.sharing.specs.declared.fault.CabinetFault.{CabinetFault}
 use Rattle.sharing.specs.declared.scheme.Scheme.{Scheme}
-use Rattle.history.specs.Calls.{Call, Answer}
-use Rattle.history.specs.Steps.{made}
-use Rattle.console.specs.declared.seat.Seat.{Seat}
+use Rattle.history.specs.Calls.{Call}
+use Rattle.console.specs.declared.held.Held.{Held}
 use Rattle.console.specs.declared.fault.ConsoleFault.{ConsoleFault}
-use Rattle.console.specs.Seats.{Kept, kept-of, Called, New}
-use Rattle.console.specs.Responses.{sums-of, reply, Calls, Makes, Obeys, Follows}
+use Rattle.console.specs.declared.fault.ConsoleFault.the-variants.{Line}
+use Rattle.console.specs.Held.{Holding, holding, Answers}
+use Rattle.console.specs.Responses.{carried, Fresh, Calls, Makes, Obeys, Follows}
 
--- a call on the cabinet that is kept
-pub answered-call : (o : Option (Seat Sums)) (s s′ : Seat Sums) (c d : Call ℕ) (r : Result ℕ ConsoleFault) (a : Answer ℕ)
-    → o ≡ Some s → d ≡ c → Called sums-of (kept-of s) d a (kept-of s′) → r ≡ reply a → Calls (mapped kept-of o) c r (Some (kept-of s′))
-answered-call o s s′ c d r a e f called same =
-    let done = subst (λ (x : Call ℕ). Called sums-of (kept-of s) x a (kept-of s′)) f called in
-    subst (λ (x : Option (Seat Sums)). Calls (mapped kept-of x) c r (Some (kept-of s′))) (sym e) (same ∙ ap reply (done .0), ap Some (done .1))
-
--- all but the first
-pub rest-whole : (xs : List ℕ) → take (length xs - 1) (drop 1 xs) ≡ drop 1 xs
-rest-whole xs = let l = length-drop 1 xs in take-all (length xs - 1) (drop 1 xs) (omega arith)
+-- a call on the cabinet that is held
+pub answered-call : (o : Option Held) (h h′ : Held) (c : Call ℕ) (r : Result ℕ ConsoleFault) (a : Result ℕ CabinetFault)
+    → o ≡ Some h → Answers (holding h) c a (holding h′) → r ≡ carried a → Calls (mapped holding o) c r (Some (holding h′))
+answered-call o h h′ c r a e answers same =
+    subst (λ (x : Option Held). Calls (mapped holding x) c r (Some (holding h′))) (sym e) (holding h′, a, refl, same, answers)
 
 -- a cabinet is made where there is none
-pub made-seat : (o : Option (Seat Sums)) (ns : List ℕ) (g : Sums) (s : Scheme) (new : Seat Sums) → false ≡ isSome o
-    → g .modulus ≡ getD ns 1 0 → s .t ≡ getD ns 2 0 → s .n ≡ getD ns 3 0 → New sums-of g s (kept-of new)
-    → Makes (mapped kept-of o) ns (Ok 0) (Some (kept-of new))
-made-seat (Some x) ns g s new none em et en n = let z : _≡_ {A = ℕ} 0 1 = cc in absurd (omega arith)
-made-seat None ns g s new none em et en n = (
-  refl,
-  (
-    kept-of new,
-    refl,
-    ap (λ (x : Sums). x .modulus) (n .group) ∙ em,
-    ap (λ (x : Scheme). x .t) (n .scheme) ∙ et,
-    ap (λ (x : Scheme). x .n) (n .scheme) ∙ en,
-    record { group = refl; scheme = refl; number = n .number; state = n .state ∙ ap₂ (λ (x : Sums) (y : Scheme). made (sums-of x) y) (sym (n .group)) (sym (n .scheme)) },
-  ),
-)
+pub made-cabinet : (o : Option Held) (ns : List ℕ) (s : Scheme) (a : Result Held GroupFault) (h : Held) (Q : GroupFault → Type 0) → false ≡ isSome o
+    → s .t ≡ getD ns 2 0 → s .n ≡ getD ns 3 0 → a ≡ Ok h → Cases a (λ x. Fresh (getD ns 0 0) (getD ns 1 0) s (holding x)) Q
+    → Makes (mapped holding o) ns (Ok 0) (Some (holding h))
+made-cabinet (Some x) ns s a h Q none et en e fresh = let z : _≡_ {A = ℕ} 0 1 = cc in absurd (omega arith)
+made-cabinet None ns s a h Q none et en e fresh =
+    (refl, (holding h, s, refl, et, en, subst (λ (x : Result Held GroupFault). Cases x (λ y. Fresh (getD ns 0 0) (getD ns 1 0) s (holding y)) Q) e fresh))
 
 -- a line that is read has the fields that its letter cannot do without
 never-bad : (p : ℕ) (l : Letter) (ns : List ℕ) → bad p ≡ good l ns → ⊥
@@ -99,12 +85,12 @@ pub enough : (bs : List ℕ) (a : Result Letter LineFault) (ms : List ℕ) (k : 
 enough bs = told-enough (read-line bs) bs refl
 
 -- what was read is done
-pub follow-good : (r : Read) (k : Letter) (ms : List ℕ) (before after : Option (Kept Sums)) (a : Result ℕ ConsoleFault) → Tells r (Ok k) ms → Obeys before k ms a after → Follows before r a after
+pub follow-good : (r : Read) (k : Letter) (ms : List ℕ) (before after : Option Holding) (a : Result ℕ ConsoleFault) → Tells r (Ok k) ms → Obeys before k ms a after → Follows before r a after
 follow-good (good l ns) k ms before after a told obeys =
     let same : k ≡ l = let e = told .0 in cc in
     subst (λ (x : List ℕ). Obeys before l x a after) (told .1) (subst (λ (x : Letter). Obeys before x ms a after) same obeys)
 follow-good (bad p) k ms before after a told obeys = let z : _≡_ {A = ℕ} 0 1 = cc in absurd (omega arith)
 
-pub follow-bad : (r : Read) (f : LineFault) (ms : List ℕ) (before after : Option (Kept Sums)) (a : Result ℕ ConsoleFault) → Tells r (Err f) ms → a ≡ Err (Line f) → after ≡ before → Follows before r a after
+pub follow-bad : (r : Read) (f : LineFault) (ms : List ℕ) (before after : Option Holding) (a : Result ℕ ConsoleFault) → Tells r (Err f) ms → a ≡ Err (Line f) → after ≡ before → Follows before r a after
 follow-bad (good l ns) f ms before after a told e same = let t = told .0 in let z : _≡_ {A = ℕ} 0 1 = cc in absurd (omega arith)
 follow-bad (bad p) f ms before after a told e same = let read : f ≡ Unreadable p = cc in (e ∙ ap (λ (x : LineFault). Err (Line x)) read, same)

@@ -1,2 +1,3 @@
 pub mod Seated
+pub mod Replies
 pub mod Answering

@@ -33,14 +33,13 @@ module _ {K : Type 0} (ops : K → GroupOps ℕ) (before : Cabinet K) (shares wo
       → Called ops (kept before shares working) c a (kept after xs′ ys′)
   called after lent room xs ys xs′ ys′ a el er e₀ same ex ey =
       let e = sym (ap₂ (λ (l r : List ℕ). step (ops (before .group)) (before .scheme) (state-of before l) r c) el er) ∙ e₀ in
-      let with : K → Scheme → ℕ → Outcome ℕ → Kept K = λ g s n p. record { group = g; scheme = s; number = n; state = p .state; working = p .working } in
-      (
+      let with : K → Scheme → ℕ → Outcome ℕ → Kept K = λ g s n p. record { group = g; scheme = s; number = n; state = p .state; working = p .working } in (
         sym (ap (λ (p : Outcome ℕ). p .answer) e),
         ap₂ (kept after) ex ey
-        ∙ ap (λ (g : K). with g (after .scheme) (after .number) (record { answer = a; state = state-of after xs; working = ys })) (same .0)
-        ∙ ap (λ (s : Scheme). with (before .group) s (after .number) (record { answer = a; state = state-of after xs; working = ys })) (same .1)
-        ∙ ap (λ (n : ℕ). with (before .group) (before .scheme) n (record { answer = a; state = state-of after xs; working = ys })) (same .2)
-        ∙ ap (with (before .group) (before .scheme) (before .number)) (sym e),
+            ∙ ap (λ (g : K). with g (after .scheme) (after .number) (record { answer = a; state = state-of after xs; working = ys })) (same .0)
+            ∙ ap (λ (s : Scheme). with (before .group) s (after .number) (record { answer = a; state = state-of after xs; working = ys })) (same .1)
+            ∙ ap (λ (n : ℕ). with (before .group) (before .scheme) n (record { answer = a; state = state-of after xs; working = ys })) (same .2)
+            ∙ ap (with (before .group) (before .scheme) (before .number)) (sym e),
       )
 
 -- a cabinet that was just made, in memory of the right length

@@ -1,3 +1,5 @@
 pub mod Faults
 pub mod Seats
+pub mod Requests
+pub mod Held
 pub mod Responses

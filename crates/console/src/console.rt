@@ -2,9 +2,13 @@ use crate::fault::ConsoleFault;
 use crate::fault::ConsoleFaultFromCabinet;
 use crate::fault::ConsoleFaultFromGroup;
 use crate::fault::ConsoleFaultFromLine;
+use crate::held::Held;
 use crate::seat::Seat;
+use groups::fault::GroupFault;
 use groups::sums::Sums;
 use groups::sums::SumsGroup;
+use groups::units::Units;
+use groups::units::UnitsGroup;
 use lines::answer::Answer;
 use lines::answer::AnswerLine;
 use lines::letter::Letter;
@@ -14,22 +18,21 @@ use sharing::scheme::Scheme;
 use std::alloc::AllocError;
 use std::alloc::Global;
 ghost use mathlib.Core.Path.{_≡_};
-ghost use mathlib.Core.Logic.{_⊎_};
 ghost use Prim.Native.Nat.{_≤_};
-ghost use lib.ListN.{length, getD, drop};
+ghost use lib.ListN.{length, getD};
 ghost use Rattle.std.specs.Options.{mapped};
 ghost use Rattle.std.specs.Results.{Cases};
 ghost use Rattle.std.specs.Vec.{made, refused};
 ghost use Rattle.std.specs.declared.option.Option.the-variants.{None};
+ghost use Rattle.lines.specs.declared.letter.Letter.the-variants.{Make};
 ghost use Rattle.lines.specs.Lines.{first-letter, least, read-line};
-ghost use Rattle.groups.specs.Sums.{In-range};
 ghost use Rattle.groups.specs.declared.fault.GroupFault.the-variants.{Modulus};
-ghost use Rattle.sharing.specs.Schemes.{Allowed};
-ghost use Rattle.sharing.specs.declared.fault.CabinetFault.the-variants.{Scheme as NoScheme};
-ghost use Rattle.history.specs.Calls.{depositing, opening};
-ghost use Rattle.console.specs.declared.fault.ConsoleFault.the-variants.{Group, Cabinet};
-ghost use Rattle.console.specs.Seats.{kept-of};
-ghost use Rattle.console.specs.Responses.{heading-of, shown, Calls, Makes, Obeys, Follows, Responds};
+ghost use Rattle.console.specs.Requests.{call-of};
+ghost use Rattle.console.specs.Held.{holding};
+ghost use Rattle.console.specs.Responses.{heading-of, shown, In-range, Fresh, Calls, Makes, Obeys, Follows, Responds};
+
+// The group of units, as K names it; the other is the group of sums.
+const UNITS: u32 = 3;
 
 // The letter that the answer to a line begins with.
 fn heading(line: &[u8]) -> char
@@ -57,48 +60,61 @@ fn answer(result: Result<u32, ConsoleFault>) -> Answer
     }
 }
 
+// A new cabinet of the group that K names, in memory of its own.
+fn seat(
+    heap: Global,
+    group: u32,
+    modulus: u32,
+    scheme: Scheme,
+) -> Result<Result<Held, GroupFault>, AllocError>
+    ensures { λ r. ⌜ made r (λ a. Cases a (λ h. Fresh group modulus scheme (holding h)) (λ e. (In-range group modulus → ⊥) × (e ≡ Modulus))) ⌝ }
+{
+    if group == UNITS {
+        return match Units::new(modulus) {
+            Ok(units) => Ok(Ok(Held::Units(Seat::make(heap, units, scheme)?))),
+            Err(fault) => Ok(Err(fault)),
+        };
+    }
+    match Sums::new(modulus) {
+        Ok(sums) => Ok(Ok(Held::Sums(Seat::make(heap, sums, scheme)?))),
+        Err(fault) => Ok(Err(fault)),
+    }
+}
+
 // A cabinet where there is none yet, from the group, the modulus, t and n.
 fn make(
     heap: Global,
-    seat: &mut Option<Seat<Sums>>,
+    held: &mut Option<Held>,
     fields: &[u32],
 ) -> Result<Result<u32, ConsoleFault>, AllocError>
     requires { ⌜ 4 ≤ length (now fields) ⌝ }
-    ensures made { λ r. ⌜ made r (λ a. Makes (mapped kept-of (now (seat .entry))) (now (fields .entry)) a (mapped kept-of (now (seat .exit)))) ⌝ }
-    ensures kept { λ r. ⌜ refused r (λ _. now (seat .exit) ≡ now (seat .entry)) ⌝ }
+    ensures made { λ r. ⌜ made r (λ a. Makes (mapped holding (now (held .entry))) (now (fields .entry)) a (mapped holding (now (held .exit)))) ⌝ }
+    ensures kept { λ r. ⌜ refused r (λ _. now (held .exit) ≡ now (held .entry)) ⌝ }
 {
-    if seat.is_some() {
+    if held.is_some() {
         return Ok(Err(ConsoleFault::CabinetExists));
     }
     let scheme = match Scheme::new(fields[2], fields[3]) {
         Ok(scheme) => scheme,
         Err(fault) => return Ok(Err(ConsoleFault::from(fault))),
     };
-    let group = match Sums::new(fields[1]) {
-        Ok(group) => group,
-        Err(fault) => return Ok(Err(ConsoleFault::from(fault))),
-    };
-    *seat = Some(Seat::make(heap, group, scheme)?);
-    Ok(Ok(0))
-}
-
-// A deposit of the first number, with the others as coefficients.
-fn deposit(seat: &mut Option<Seat<Sums>>, fields: &[u32]) -> Result<u32, ConsoleFault>
-    requires { ⌜ 1 ≤ length (now fields) ⌝ }
-    ensures { λ r. ⌜ Calls (mapped kept-of (now (seat .entry))) (depositing (getD (now (fields .entry)) 0 0) (drop 1 (now (fields .entry)))) r (mapped kept-of (now (seat .exit))) ⌝ }
-{
-    match seat {
-        Some(seat) => Ok(seat.deposit(fields[0], &fields[1..])?),
-        None => Err(ConsoleFault::NoCabinet),
+    match seat(heap, fields[0], fields[1], scheme)? {
+        Ok(new) => {
+            *held = Some(new);
+            Ok(Ok(0))
+        }
+        Err(fault) => Ok(Err(ConsoleFault::from(fault))),
     }
 }
 
-// An opening by the helpers.
-fn open(seat: &mut Option<Seat<Sums>>, helpers: &[u32]) -> Result<u32, ConsoleFault>
-    ensures { λ r. ⌜ Calls (mapped kept-of (now (seat .entry))) (opening (now (helpers .entry))) r (mapped kept-of (now (seat .exit))) ⌝ }
+// A call on the cabinet that is held.
+fn call(held: &mut Option<Held>, letter: Letter, fields: &[u32]) -> Result<u32, ConsoleFault>
+    requires call { ⌜ (letter ≡ Make → ⊥) ⌝ }
+    requires enough { ⌜ least letter ≤ length (now fields) ⌝ }
+    ensures { λ r. ⌜ Calls (mapped holding (now (held .entry))) (call-of letter (now (fields .entry))) r (mapped holding (now (held .exit))) ⌝ }
 {
-    match seat {
-        Some(seat) => Ok(seat.open(helpers)?),
+    match held {
+        Some(held) => Ok(held.obey(letter, fields)?),
         None => Err(ConsoleFault::NoCabinet),
     }
 }
@@ -106,18 +122,17 @@ fn open(seat: &mut Option<Seat<Sums>>, helpers: &[u32]) -> Result<u32, ConsoleFa
 // Does what a letter asks for with these numbers.
 fn obey(
     heap: Global,
-    seat: &mut Option<Seat<Sums>>,
+    held: &mut Option<Held>,
     letter: Letter,
     fields: &[u32],
 ) -> Result<Result<u32, ConsoleFault>, AllocError>
     requires { ⌜ least letter ≤ length (now fields) ⌝ }
-    ensures obeys { λ r. ⌜ made r (λ a. Obeys (mapped kept-of (now (seat .entry))) letter (now (fields .entry)) a (mapped kept-of (now (seat .exit)))) ⌝ }
-    ensures kept { λ r. ⌜ refused r (λ _. now (seat .exit) ≡ now (seat .entry)) ⌝ }
+    ensures obeys { λ r. ⌜ made r (λ a. Obeys (mapped holding (now (held .entry))) letter (now (fields .entry)) a (mapped holding (now (held .exit)))) ⌝ }
+    ensures kept { λ r. ⌜ refused r (λ _. now (held .exit) ≡ now (held .entry)) ⌝ }
 {
     match letter {
-        Letter::Make => make(heap, seat, fields),
-        Letter::Deposit => Ok(deposit(seat, fields)),
-        Letter::Open => Ok(open(seat, fields)),
+        Letter::Make => make(heap, held, fields),
+        Letter::Deposit | Letter::Open => Ok(call(held, letter, fields)),
     }
 }
 
@@ -125,39 +140,35 @@ fn obey(
 #[derive(Drop)]
 pub struct Console {
     fields: Vec<u32>,
-    seat: Option<Seat<Sums>>,
+    held: Option<Held>,
 }
 
 impl Console {
     // No cabinet yet.
     pub fn new(heap: Global) -> Self
-        ensures { λ r. ⌜ r .seat ≡ None ⌝ }
+        ensures { λ r. ⌜ r .held ≡ None ⌝ }
     {
         Console {
             fields: Vec::new(heap),
-            seat: None,
+            held: None,
         }
     }
 
     // Does what a line says.
-    fn follow(
-        &mut self,
-        heap: Global,
-        line: &[u8],
-    ) -> Result<Result<u32, ConsoleFault>, AllocError>
-        ensures follows { λ r. ⌜ made r (λ a. Follows (mapped kept-of (now (self .entry) .seat)) (read-line (now (line .entry))) a (mapped kept-of (now (self .exit) .seat))) ⌝ }
-        ensures kept { λ r. ⌜ refused r (λ _. now (self .exit) .seat ≡ now (self .entry) .seat) ⌝ }
+    fn follow(&mut self, heap: Global, line: &[u8]) -> Result<Result<u32, ConsoleFault>, AllocError>
+        ensures follows { λ r. ⌜ made r (λ a. Follows (mapped holding (now (self .entry) .held)) (read-line (now (line .entry))) a (mapped holding (now (self .exit) .held))) ⌝ }
+        ensures kept { λ r. ⌜ refused r (λ _. now (self .exit) .held ≡ now (self .entry) .held) ⌝ }
     {
         match parse(line, &mut self.fields)? {
-            Ok(letter) => obey(heap, &mut self.seat, letter, self.fields.as_slice()),
+            Ok(letter) => obey(heap, &mut self.held, letter, self.fields.as_slice()),
             Err(fault) => Ok(Err(ConsoleFault::from(fault))),
         }
     }
 
     // Does what a line says, and answers it. An `Err` is want of memory, and changes no cabinet.
     pub fn respond(&mut self, heap: Global, line: &[u8]) -> Result<AnswerLine, AllocError>
-        ensures answer { λ r. ⌜ made r (λ a. Responds (mapped kept-of (now (self .entry) .seat)) (now (line .entry)) (a .letter) (a .answer) (mapped kept-of (now (self .exit) .seat))) ⌝ }
-        ensures kept { λ r. ⌜ refused r (λ _. now (self .exit) .seat ≡ now (self .entry) .seat) ⌝ }
+        ensures answer { λ r. ⌜ made r (λ a. Responds (mapped holding (now (self .entry) .held)) (now (line .entry)) (a .letter) (a .answer) (mapped holding (now (self .exit) .held))) ⌝ }
+        ensures kept { λ r. ⌜ refused r (λ _. now (self .exit) .held ≡ now (self .entry) .held) ⌝ }
     {
         let letter = heading(line);
         let result = self.follow(heap, line)?;

@@ -1,4 +1,5 @@
 // The console: a line comes in, the cabinet does what it says, and an answer comes out.
 pub mod console;
 pub mod fault;
+pub mod held;
 pub mod seat;

@@ -1,15 +1,21 @@
 use custody::cabinet::Cabinet;
 use groups::group::Group;
+use lines::letter::Letter;
 use sharing::fault::CabinetFault;
 use sharing::scheme::Scheme;
 use std::alloc::AllocError;
 use std::alloc::Global;
 ghost use mathlib.Core.Path.{_≡_};
-ghost use Rattle.std.specs.Vec.{made as built};
+ghost use Prim.Native.Nat.{_≤_};
+ghost use lib.ListN.{length};
+ghost use Rattle.std.specs.Vec.{made};
+ghost use Rattle.lines.specs.Lines.{least};
+ghost use Rattle.lines.specs.declared.letter.Letter.the-variants.{Make};
 ghost use Rattle.history.specs.Calls.{depositing, opening, epoch-is, key-is, answered};
 ghost use Rattle.console.specs.Seats.{kept-of, Called, New};
+ghost use Rattle.console.specs.Requests.{call-of, Replied};
 
-// A cabinet and the memory that it is lent.
+// A cabinet over numbers, and the memory that it is lent.
 #[derive(Drop)]
 pub struct Seat<G> {
     cabinet: Cabinet<G>,
@@ -22,7 +28,7 @@ impl<G: Group<Element = u32>> Seat<G> {
     pub fn make(heap: Global, group: G, scheme: Scheme) -> Result<Self, AllocError>
     where
         G: Drop,
-        ensures { λ r. ⌜ built r (λ s. New (λ g. ops g) group scheme (kept-of s)) ⌝ }
+        ensures { λ r. ⌜ made r (λ s. New (λ g. ops g) group scheme (kept-of s)) ⌝ }
     {
         let mut shares = vec![in heap; 0u32; scheme.share_length()]?;
         let working = vec![in heap; 0u32; scheme.working_length()]?;
@@ -34,7 +40,7 @@ impl<G: Group<Element = u32>> Seat<G> {
         })
     }
 
-    pub fn deposit(&mut self, key: u32, coefficients: &[u32]) -> Result<u32, CabinetFault>
+    fn deposit(&mut self, key: u32, coefficients: &[u32]) -> Result<u32, CabinetFault>
         ensures { λ r. ⌜ Called (λ g. ops g) (kept-of (now (self .entry))) (depositing key (now (coefficients .entry))) (answered epoch-is r) (kept-of (now (self .exit))) ⌝ }
     {
         let shares = self.shares.as_mut_slice();
@@ -42,10 +48,23 @@ impl<G: Group<Element = u32>> Seat<G> {
         self.cabinet.deposit(key, coefficients, shares, working)
     }
 
-    pub fn open(&mut self, helpers: &[u32]) -> Result<u32, CabinetFault>
+    fn open(&mut self, helpers: &[u32]) -> Result<u32, CabinetFault>
         ensures { λ r. ⌜ Called (λ g. ops g) (kept-of (now (self .entry))) (opening (now (helpers .entry))) (answered key-is r) (kept-of (now (self .exit))) ⌝ }
     {
         let working = self.working.as_mut_slice();
         self.cabinet.open(helpers, self.shares.as_slice(), working)
+    }
+
+    // The call that a letter asks for with these numbers.
+    pub(crate) fn obey(&mut self, letter: Letter, fields: &[u32]) -> Result<u32, CabinetFault>
+        requires call { ⌜ (letter ≡ Make → ⊥) ⌝ }
+        requires enough { ⌜ least letter ≤ length (now fields) ⌝ }
+        ensures { λ r. ⌜ Replied (λ g. ops g) (kept-of (now (self .entry))) (call-of letter (now (fields .entry))) r (kept-of (now (self .exit))) ⌝ }
+    {
+        match letter {
+            Letter::Make => unreachable(),
+            Letter::Deposit => self.deposit(fields[0], &fields[1..]),
+            Letter::Open => self.open(fields),
+        }
     }
 }

@@ -1,11 +1,10 @@
 -- The numbers below m, added modulo m, are a commutative group.
-use mathlib.Core.Path.{_≡_, refl, sym, ap, subst, _∙_}
-use mathlib.Core.List.{List, [], _∷_}
+use mathlib.Core.Path.{_≡_, sym, ap, _∙_}
 use Prim.Native.Nat.{ℕ, _+_, _-_, _%_, _≤_, _<_}
 use native.Mathlib.Nat.{mod-lt, mod-eq-of-lt, mod-add-mod, add-mod-mod, mod-self, add-comm, add-assoc, add-zero}
 use native.Mathlib.Omega.{arith}
 use lib.Dec.{T, ltb, ltb→lt, lt→ltb, eqb→eq, eqb-refl}
-use Rattle.algebra.specs.Group.{GroupOps, GroupLaws}
+use Rattle.algebra.specs.Group.{GroupLaws}
 use Rattle.groups.specs.Sums.{sums}
 
 module _ (m : ℕ) (big : 2 ≤ m) where

@@ -1,11 +1,13 @@
 ghost use mathlib.Core.Path.{_≡_};
 ghost use Rattle.groups.specs.Faults.{refusal};
 
-// Why a group was refused.
-#[derive(Clone, Copy)]
+// Why a group, or what is read or written of it, was refused.
+#[derive(Clone, Copy, PartialEq, Eq, Debug)]
 pub enum GroupFault {
     // The modulus is out of range.
     Modulus,
+    // The bytes are no element's, or there are too few or too many of them.
+    Encoding,
 }
 
 impl GroupFault {
@@ -14,6 +16,7 @@ impl GroupFault {
     {
         match self {
             GroupFault::Modulus => 2,
+            GroupFault::Encoding => 23,
         }
     }
 
@@ -22,6 +25,7 @@ impl GroupFault {
     {
         match self {
             GroupFault::Modulus => 0,
+            GroupFault::Encoding => 0,
         }
     }
 }

@@ -1,8 +1,12 @@
+use crate::bytes::read_number;
+use crate::bytes::write_number;
+use crate::encoded::EncodedGroup;
+use crate::encoded::ShortGroup;
 use crate::fault::GroupFault;
 use crate::group::Group;
 ghost use mathlib.Core.Path.{_≡_};
-ghost use Prim.Native.Nat.{_<_, _≤_};
 ghost use Rattle.std.specs.Results.{Cases};
+ghost use Rattle.groups.specs.Forms.{number-form};
 ghost use Rattle.groups.specs.Sums.{sums, In-range};
 ghost use Rattle.groups.specs.declared.fault.GroupFault.the-variants.{Modulus};
 
@@ -52,6 +56,37 @@ pub impl Group for Sums as SumsGroup {
     }
 
     fn negative(&self, a: u32) -> u32 {
-        self.modulus.saturating_sub(a) % self.modulus
+        let rest = self.modulus.saturating_sub(a);
+        rest % self.modulus
     }
 }
+
+pub impl EncodedGroup for Sums as SumsEncoded {
+    ghost form = { λ g. number-form 2 (g .modulus) };
+
+    fn id(&self) -> u8 {
+        2
+    }
+
+    fn modulus(&self) -> u32 {
+        self.modulus
+    }
+
+    fn width(&self) -> usize {
+        4
+    }
+
+    fn write(&self, a: u32, out: &mut [u8]) -> Result<(), GroupFault> {
+        write_number(a, out)
+    }
+
+    fn read(&self, bytes: &[u8]) -> Result<u32, GroupFault> {
+        let a = read_number(bytes)?;
+        if !self.is_valid(a) {
+            return Err(GroupFault::Encoding);
+        }
+        Ok(a)
+    }
+}
+
+pub impl ShortGroup for Sums as SumsShort {}

@@ -41,9 +41,9 @@ readable ds = ltb 0 (length ds) && (leb (length ds) 10 && leb (value-after 0 ds)
 abbrev pub number-of : List ℕ → Option ℕ
 number-of ds = cond (readable ds) (Some (value-after 0 ds)) None
 
--- whether the letter takes n as its field after k others: K has four fields, and the first, the group, is 2
+-- whether the letter takes n as its field after k others: K has four fields, and the first, the group, is 2 or 3
 abbrev pub accepts : Letter → ℕ → ℕ → Bool
-accepts Make k n = ltb k 4 && (ltb 0 k || eqb n 2)
+accepts Make k n = ltb k 4 && (ltb 0 k || (eqb n 2 || eqb n 3))
 accepts Deposit k n = true
 accepts Open k n = true
 

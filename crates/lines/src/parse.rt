@@ -70,7 +70,7 @@ fn takes(letter: Letter, count: usize, value: u32) -> bool
     ensures { λ r. ⌜ r ≡ accepts letter count value ⌝ }
 {
     match letter {
-        Letter::Make => count < 4 && (count > 0 || value == 2),
+        Letter::Make => count < 4 && (count > 0 || value == 2 || value == 3),
         Letter::Deposit => true,
         Letter::Open => true,
     }

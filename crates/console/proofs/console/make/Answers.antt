@@ -1,9 +1,8 @@
-use Rattle.console.proofs.Answering.{made-seat}
+use Rattle.console.proofs.Answering.{made-cabinet}
 use Rattle.console.proofs.console.make.Needs as need
 
-pub returns : need.returns
-returns c = record {
-  made = made-seat (c .args .seat .now) (c .args .fields .now) (c .in-Ok-new .group) (c .in-Ok .scheme) (c .in-Continue-make .field-0) (c .if-is-some .ensures tt)
-      (c .in-Ok-new .ensures tt .1) (c .in-Ok .ensures tt .0) (c .in-Ok .ensures tt .1) (c .in-Continue-make .ensures tt);
+pub returns-in-Ok-2 : need.returns-in-Ok-2
+returns-in-Ok-2 c = record {
+  made = made-cabinet (c .args .held .now) (c .args .fields .now) (c .in-Ok .scheme) (c .in-Continue-new .field-0) (c .in-Ok-2 .new) _ (c .if-is-some .ensures tt) (c .in-Ok .ensures tt .0) (c .in-Ok .ensures tt .1) (c .in-Ok-2 .is) (c .in-Continue-new .ensures tt);
   kept = tt;
 }

@@ -1,4 +1,4 @@
-use mathlib.Core.Path.{_≡_, ap, sym, subst, _∙_}
+use mathlib.Core.Path.{sym, subst}
 use Prim.Native.Nat.{_≤_}
 use lib.ListN.{length}
 use Rattle.std.specs.Of.Vec.{vec-items}
