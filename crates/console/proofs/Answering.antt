@@ -9,6 +9,7 @@ use lib.ListN.{length, getD, take, drop}
 use Rattle.std.proofs.shelf.Tests.{ltb-false}
 use Rattle.std.specs.Options.{mapped, isSome}
 use Rattle.std.specs.Results.{Cases}
+use Rattle.std.specs.Vec.{made}
 use Rattle.std.specs.declared.option.Option.{Option}
 use Rattle.std.specs.declared.option.Option.the-variants.{Some, None}
 use Rattle.std.specs.declared.result.Result.{Result}
@@ -94,3 +95,9 @@ follow-good (bad p) k ms before after a told obeys = let z : _≡_ {A = ℕ} 0 1
 pub follow-bad : (r : Read) (f : LineFault) (ms : List ℕ) (before after : Option Holding) (a : Result ℕ ConsoleFault) → Tells r (Err f) ms → a ≡ Err (Line f) → after ≡ before → Follows before r a after
 follow-bad (good l ns) f ms before after a told e same = let t = told .0 in let z : _≡_ {A = ℕ} 0 1 = cc in absurd (omega arith)
 follow-bad (bad p) f ms before after a told e same = let read : f ≡ Unreadable p = cc in (e ∙ ap (λ (x : LineFault). Err (Line x)) read, same)
+
+pub followed : {E : Type 0} (x : Read) (told : Result Letter LineFault) (k : Letter) (ms ns : List ℕ) (before after : Option Holding) (r : Result (Result ℕ ConsoleFault) E)
+    → Tells x told ms → told ≡ Ok k → ns ≡ ms → made r (λ a. Obeys before k ns a after) → made r (λ a. Follows before x a after)
+followed x told k ms ns before after (Ok a) tells e same obeys =
+    follow-good x k ms before after a (subst (λ (t : Result Letter LineFault). Tells x t ms) e tells) (subst (λ (l : List ℕ). Obeys before k l a after) same obeys)
+followed x told k ms ns before after (Err f) tells e same obeys = tt

@@ -1,6 +1,6 @@
 -- Calls on a cabinet in memory of its own.
 use mathlib.Core.Path.{_≡_, refl, sym, ap, ap₂, _∙_}
-use mathlib.Core.List.{List, _++_}
+use mathlib.Core.List.{List, [], _++_}
 use Prim.Native.Nat.{ℕ, _-_, _*_}
 use lib.ListN.{length, drop, replicate}
 use Rattle.std.proofs.shelf.Lists.{take-at}
@@ -10,8 +10,12 @@ use Rattle.std.specs.Changed.{refilled}
 use Rattle.algebra.specs.Group.{GroupOps}
 use Rattle.algebra.specs.Tuples.{tuple-zero}
 use Rattle.sharing.specs.declared.scheme.Scheme.{Scheme}
-use Rattle.history.specs.Calls.{State, Call, Answer, Outcome}
-use Rattle.history.specs.Steps.{step}
+use Rattle.history.specs.Calls.{State, Call, revoking, Answer, Outcome}
+use Rattle.std.specs.declared.option.Option.{Option}
+use Rattle.std.specs.declared.option.Option.the-variants.{Some, None}
+use Rattle.sharing.specs.declared.fault.CabinetFault.{CabinetFault}
+use Rattle.history.specs.Rules.{fault}
+use Rattle.history.specs.Steps.{accepted, decided, step}
 use Rattle.custody.specs.declared.cabinet.Cabinet.{Cabinet}
 use Rattle.custody.specs.States.{state-of, Same-cabinet}
 use Rattle.history.specs.declared.ledger.Ledger.{Ledger}
@@ -55,3 +59,19 @@ new-seat ops g s c shares xs working n fields same zeros full = record {
       let with : Ledger → List ℕ → State ℕ = λ l x. record { ledger = l; shares = x } in
       ap₂ with (fields .3) (same ∙ zeros ∙ ap (tuple-zero (ops g)) full);
 }
+
+-- revoking takes no working memory, and leaves whatever there is
+any-working : {C : Type 0} (G : GroupOps C) (s : Scheme) (o : Option CabinetFault) (st st′ : State C) (w : List C) (h : ℕ) (a : Answer C)
+    → decided G s o st [] (accepted G s st [] (revoking h)) ≡ record { answer = a; state = st′; working = [] }
+    → decided G s o st w (accepted G s st w (revoking h)) ≡ record { answer = a; state = st′; working = w }
+any-working {C} G s None st st′ w h a e =
+    let with : Answer C → State C → Outcome C = λ x y. record { answer = x; state = y; working = w } in
+    ap₂ with (ap (λ (p : Outcome C). p .answer) e) (ap (λ (p : Outcome C). p .state) e)
+any-working {C} G s (Some f) st st′ w h a e =
+    let with : Answer C → State C → Outcome C = λ x y. record { answer = x; state = y; working = w } in
+    ap₂ with (ap (λ (p : Outcome C). p .answer) e) (ap (λ (p : Outcome C). p .state) e)
+
+pub revoke-any : {C : Type 0} (G : GroupOps C) (s : Scheme) (st st′ : State C) (w : List C) (h : ℕ) (a : Answer C)
+    → step G s st [] (revoking h) ≡ record { answer = a; state = st′; working = [] }
+    → step G s st w (revoking h) ≡ record { answer = a; state = st′; working = w }
+revoke-any G s st st′ w h a e = any-working G s (fault G s st 0 (revoking h)) st st′ w h a e

@@ -11,7 +11,7 @@ use Rattle.std.specs.declared.option.Option.the-variants.{Some, None}
 use Rattle.std.specs.declared.result.Result.{Result}
 use Rattle.std.specs.declared.result.Result.the-variants.{Ok, Err}
 use Rattle.lines.specs.declared.letter.Letter.{Letter}
-use Rattle.lines.specs.declared.letter.Letter.the-variants.{Make, Deposit, Open}
+use Rattle.lines.specs.declared.letter.Letter.the-variants.{Make, Deposit, Withdraw, Refresh, Revoke, Repair, Open}
 use Rattle.lines.specs.declared.fault.LineFault.the-variants.{Unreadable}
 use Rattle.lines.specs.declared.answer.Answer.{Answer}
 use Rattle.lines.specs.declared.answer.Answer.the-variants.{Number, Refused}
@@ -64,6 +64,10 @@ Calls (Some h) c r after = (h′ : Holding) × (a : Result ℕ CabinetFault) × 
 abbrev pub Obeys : Option Holding → Letter → List ℕ → Result ℕ ConsoleFault → Option Holding → Type 0
 Obeys before Make ns r after = Makes before ns r after
 Obeys before Deposit ns r after = Calls before (call-of Deposit ns) r after
+Obeys before Withdraw ns r after = Calls before (call-of Withdraw ns) r after
+Obeys before Refresh ns r after = Calls before (call-of Refresh ns) r after
+Obeys before Revoke ns r after = Calls before (call-of Revoke ns) r after
+Obeys before Repair ns r after = Calls before (call-of Repair ns) r after
 Obeys before Open ns r after = Calls before (call-of Open ns) r after
 
 -- a line that cannot be read changes nothing

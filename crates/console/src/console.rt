@@ -132,7 +132,12 @@ fn obey(
 {
     match letter {
         Letter::Make => make(heap, held, fields),
-        Letter::Deposit | Letter::Open => Ok(call(held, letter, fields)),
+        Letter::Deposit
+        | Letter::Withdraw
+        | Letter::Refresh
+        | Letter::Revoke
+        | Letter::Repair
+        | Letter::Open => Ok(call(held, letter, fields)),
     }
 }
 

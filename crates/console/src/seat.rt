@@ -11,7 +11,7 @@ ghost use lib.ListN.{length};
 ghost use Rattle.std.specs.Vec.{made};
 ghost use Rattle.lines.specs.Lines.{least};
 ghost use Rattle.lines.specs.declared.letter.Letter.the-variants.{Make};
-ghost use Rattle.history.specs.Calls.{depositing, opening, epoch-is, key-is, answered};
+ghost use Rattle.history.specs.Calls.{depositing, withdrawing, refreshing, dealing, revoking, repairing, opening, epoch-is, holder-is, key-is, answered};
 ghost use Rattle.console.specs.Seats.{kept-of, Called, New};
 ghost use Rattle.console.specs.Requests.{call-of, Replied};
 
@@ -41,11 +41,42 @@ impl<G: Group<Element = u32>> Seat<G> {
     }
 
     fn deposit(&mut self, key: u32, coefficients: &[u32]) -> Result<u32, CabinetFault>
-        ensures { λ r. ⌜ Called (λ g. ops g) (kept-of (now (self .entry))) (depositing key (now (coefficients .entry))) (answered epoch-is r) (kept-of (now (self .exit))) ⌝ }
+        ensures { λ r. ⌜ Called (λ g. ops g) (kept-of (now (self .entry))) (dealing (depositing key) (now (coefficients .entry))) (answered epoch-is r) (kept-of (now (self .exit))) ⌝ }
     {
         let shares = self.shares.as_mut_slice();
         let working = self.working.as_mut_slice();
         self.cabinet.deposit(key, coefficients, shares, working)
+    }
+
+    fn withdraw(&mut self, key: u32, coefficients: &[u32]) -> Result<u32, CabinetFault>
+        ensures { λ r. ⌜ Called (λ g. ops g) (kept-of (now (self .entry))) (dealing (withdrawing key) (now (coefficients .entry))) (answered epoch-is r) (kept-of (now (self .exit))) ⌝ }
+    {
+        let shares = self.shares.as_mut_slice();
+        let working = self.working.as_mut_slice();
+        self.cabinet.withdraw(key, coefficients, shares, working)
+    }
+
+    fn refresh(&mut self, coefficients: &[u32]) -> Result<u32, CabinetFault>
+        ensures { λ r. ⌜ Called (λ g. ops g) (kept-of (now (self .entry))) (dealing refreshing (now (coefficients .entry))) (answered epoch-is r) (kept-of (now (self .exit))) ⌝ }
+    {
+        let shares = self.shares.as_mut_slice();
+        let working = self.working.as_mut_slice();
+        self.cabinet.refresh(coefficients, shares, working)
+    }
+
+    fn revoke(&mut self, holder: u32) -> Result<u32, CabinetFault>
+        ensures { λ r. ⌜ Called (λ g. ops g) (kept-of (now (self .entry))) (revoking holder) (answered holder-is r) (kept-of (now (self .exit))) ⌝ }
+    {
+        let shares = self.shares.as_mut_slice();
+        self.cabinet.revoke(holder, shares)
+    }
+
+    fn repair(&mut self, holder: u32, helpers: &[u32]) -> Result<u32, CabinetFault>
+        ensures { λ r. ⌜ Called (λ g. ops g) (kept-of (now (self .entry))) (repairing holder (now (helpers .entry))) (answered holder-is r) (kept-of (now (self .exit))) ⌝ }
+    {
+        let shares = self.shares.as_mut_slice();
+        let working = self.working.as_mut_slice();
+        self.cabinet.repair(holder, helpers, shares, working)
     }
 
     fn open(&mut self, helpers: &[u32]) -> Result<u32, CabinetFault>
@@ -64,6 +95,10 @@ impl<G: Group<Element = u32>> Seat<G> {
         match letter {
             Letter::Make => unreachable(),
             Letter::Deposit => self.deposit(fields[0], &fields[1..]),
+            Letter::Withdraw => self.withdraw(fields[0], &fields[1..]),
+            Letter::Refresh => self.refresh(fields),
+            Letter::Revoke => self.revoke(fields[0]),
+            Letter::Repair => self.repair(fields[0], &fields[1..]),
             Letter::Open => self.open(fields),
         }
     }

@@ -1,2 +1,4 @@
 pub mod Makings
 pub mod Dealt
+pub mod Keyed
+pub mod Rewritten

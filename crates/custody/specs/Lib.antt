@@ -1,2 +1,4 @@
 pub mod Making
 pub mod States
+pub mod Dealings
+pub mod Holders

@@ -11,14 +11,24 @@ pub record State (C : Type 0) : Type 0 where
   pub ledger : Ledger
   pub shares : List C
 
+-- what a dealing is for: a key that is added, a key that is taken away, or neither
+pub data Deal (C : Type 0) : Type 0 where
+  depositing withdrawing : C → Deal C
+  refreshing : Deal C
+
 pub data Call (C : Type 0) : Type 0 where
-  -- a key and the dealer's coefficients
-  depositing : C → List C → Call C
+  -- a deposit, a withdrawal or a refresh, with the dealer's coefficients
+  dealing : Deal C → List C → Call C
+  -- a holder
+  revoking : ℕ → Call C
+  -- a holder and the helpers
+  repairing : ℕ → List ℕ → Call C
   -- the helpers
   opening : List ℕ → Call C
 
 pub data Answer (C : Type 0) : Type 0 where
   epoch-is : ℕ → Answer C
+  holder-is : ℕ → Answer C
   key-is : C → Answer C
   refused : CabinetFault → Answer C
 

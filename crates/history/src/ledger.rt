@@ -1,7 +1,7 @@
 ghost use mathlib.Core.Path.{_≡_};
-ghost use Prim.Native.Nat.{_+_};
-ghost use Rattle.std.specs.Options.{Cases};
-ghost use Rattle.history.specs.Ledgers.{fresh, is-present, at-epoch};
+ghost use mathlib.Core.Logic.{_⊎_};
+ghost use Prim.Native.Nat.{_<_, _≤_};
+ghost use Rattle.history.specs.Ledgers.{fresh, is-present, with-holder};
 
 // The most holders that a scheme can have.
 const MOST_HOLDERS: usize = 30;
@@ -47,5 +47,24 @@ impl Ledger {
             return false;
         }
         self.holders[number - 1].present
+    }
+
+    // Records that a holder's share is present or missing from this epoch on; a number that no
+    // holder can have changes nothing.
+    pub fn mark(&mut self, holder: u32, present: bool)
+        ensures known { λ _. ⌜ (1 ≤ holder → holder ≤ 30 → now (self .exit) ≡ with-holder holder present (now (self .entry))) ⌝ }
+        ensures unknown { λ _. ⌜ ((holder < 1) ⊎ (30 < holder) → now (self .exit) ≡ now (self .entry)) ⌝ }
+    {
+        let number = holder as usize;
+        if number < 1 {
+            return;
+        }
+        if number > MOST_HOLDERS {
+            return;
+        }
+        self.holders[number - 1] = Holder {
+            present,
+            changed: self.epoch,
+        };
     }
 }

@@ -16,7 +16,7 @@ use Rattle.std.specs.Written.{decimal}
 use Rattle.std.specs.declared.option.Option.the-variants.{Some}
 use Rattle.std.specs.shelf.Text.{allDigits}
 use Rattle.lines.specs.declared.letter.Letter.{Letter}
-use Rattle.lines.specs.declared.letter.Letter.the-variants.{Make, Deposit, Open}
+use Rattle.lines.specs.declared.letter.Letter.the-variants.{Make, Deposit, Withdraw, Refresh, Revoke, Repair, Open}
 use Rattle.lines.specs.Letters.{letter-of, sign}
 use Rattle.lines.specs.Lines.{Read, good, bad, front-digits, value-after, readable, accepts, least, fine, read-fields, after-letter, line-of, Accepted, Reads-back}
 use Rattle.lines.proofs.Reading.{skip-on}
@@ -68,6 +68,10 @@ fields-back l ms (n ∷ ns) p ok enough =
 letter-back : (l : Letter) → letter-of (sign l) ≡ Some l
 letter-back Make = refl
 letter-back Deposit = refl
+letter-back Withdraw = refl
+letter-back Refresh = refl
+letter-back Revoke = refl
+letter-back Repair = refl
 letter-back Open = refl
 
 pub reads-back : Reads-back

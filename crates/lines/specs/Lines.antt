@@ -15,7 +15,7 @@ use Rattle.std.specs.Written.{decimal}
 use Rattle.lines.specs.declared.fault.LineFault.{LineFault}
 use Rattle.lines.specs.declared.fault.LineFault.the-variants.{Unreadable}
 use Rattle.lines.specs.declared.letter.Letter.{Letter}
-use Rattle.lines.specs.declared.letter.Letter.the-variants.{Make, Deposit, Open}
+use Rattle.lines.specs.declared.letter.Letter.the-variants.{Make, Deposit, Withdraw, Refresh, Revoke, Repair, Open}
 use Rattle.lines.specs.Letters.{letter-of, sign}
 
 -- what was read: the letter with the numbers after it, or the offset of the first fault
@@ -41,16 +41,24 @@ readable ds = ltb 0 (length ds) && (leb (length ds) 10 && leb (value-after 0 ds)
 abbrev pub number-of : List ℕ → Option ℕ
 number-of ds = cond (readable ds) (Some (value-after 0 ds)) None
 
--- whether the letter takes n as its field after k others: K has four fields, and the first, the group, is 2 or 3
+-- whether the letter takes n as its field after k others: K has four fields, and the first, the group, is 2 or 3; S has one
 abbrev pub accepts : Letter → ℕ → ℕ → Bool
 accepts Make k n = ltb k 4 && (ltb 0 k || (eqb n 2 || eqb n 3))
 accepts Deposit k n = true
+accepts Withdraw k n = true
+accepts Refresh k n = true
+accepts Revoke k n = ltb k 1
+accepts Repair k n = true
 accepts Open k n = true
 
--- how many fields the letter cannot do without: group, modulus, threshold and holders; the key; none
+-- how many fields the letter cannot do without: group, modulus, threshold and holders; the key; the holder; none
 abbrev pub least : Letter → ℕ
 least Make = 4
 least Deposit = 1
+least Withdraw = 1
+least Refresh = 0
+least Revoke = 1
+least Repair = 1
 least Open = 0
 
 -- a field after k others that can be read and that the letter takes

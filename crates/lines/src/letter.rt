@@ -7,8 +7,16 @@ ghost use Rattle.lines.specs.Letters.{sign, letter-of};
 pub enum Letter {
     // K: makes a cabinet, from a group, a modulus, a threshold and a number of holders.
     Make,
-    // D: deposits under a key, with coefficients.
+    // D: deposits a key, with coefficients.
     Deposit,
+    // W: withdraws a key, with coefficients.
+    Withdraw,
+    // N: refreshes the shares, with coefficients.
+    Refresh,
+    // S: revokes a holder.
+    Revoke,
+    // M: repairs a holder, with helpers.
+    Repair,
     // O: opens, with helpers.
     Open,
 }
@@ -22,6 +30,10 @@ impl Letter {
         match self {
             Letter::Make => 'K',
             Letter::Deposit => 'D',
+            Letter::Withdraw => 'W',
+            Letter::Refresh => 'N',
+            Letter::Revoke => 'S',
+            Letter::Repair => 'M',
             Letter::Open => 'O',
         }
     }

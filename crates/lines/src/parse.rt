@@ -29,6 +29,10 @@ pub fn letter(byte: u8) -> Option<Letter>
     match byte as char {
         'K' => Some(Letter::Make),
         'D' => Some(Letter::Deposit),
+        'W' => Some(Letter::Withdraw),
+        'N' => Some(Letter::Refresh),
+        'S' => Some(Letter::Revoke),
+        'M' => Some(Letter::Repair),
         'O' => Some(Letter::Open),
         _ => None,
     }
@@ -71,8 +75,9 @@ fn takes(letter: Letter, count: usize, value: u32) -> bool
 {
     match letter {
         Letter::Make => count < 4 && (count > 0 || value == 2 || value == 3),
-        Letter::Deposit => true,
-        Letter::Open => true,
+        Letter::Revoke => count < 1,
+        Letter::Deposit | Letter::Withdraw | Letter::Refresh | Letter::Repair | Letter::Open =>
+            true,
     }
 }
 
@@ -82,8 +87,9 @@ fn fewest(letter: Letter) -> usize
 {
     match letter {
         Letter::Make => 4,
-        Letter::Deposit => 1,
-        Letter::Open => 0,
+        Letter::Deposit | Letter::Withdraw => 1,
+        Letter::Revoke | Letter::Repair => 1,
+        Letter::Refresh | Letter::Open => 0,
     }
 }
 

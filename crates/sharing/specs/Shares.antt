@@ -8,14 +8,25 @@ use lib.ListN.{length}
 use Rattle.std.specs.declared.option.Option.{Option}
 use Rattle.std.specs.shelf.Lists.{All}
 use Rattle.algebra.specs.Group.{GroupOps}
-use Rattle.algebra.specs.Tuples.{all-valid}
+use Rattle.algebra.specs.Tuples.{all-valid, tuple-plus, tuple-less}
 use Rattle.algebra.specs.Rows.{row-at}
 use Rattle.algebra.specs.Dealing.{embedded, dealt}
 use Rattle.sharing.specs.declared.fault.CabinetFault.{CabinetFault}
 use Rattle.sharing.specs.declared.fault.CabinetFault.the-variants.{MemoryLength, CoefficientCount, UnknownHolder}
 use Rattle.sharing.specs.declared.scheme.Scheme.{Scheme}
+use Rattle.sharing.specs.declared.shares.Change.{Change}
+use Rattle.sharing.specs.declared.shares.Change.the-variants.{Add, Subtract}
 use Rattle.sharing.specs.Verdicts.{row, length-row}
 use Rattle.sharing.specs.Helpers.{helper-rows}
+
+-- a share with a tuple added to it, or taken from it
+abbrev pub changed : {C : Type 0} → GroupOps C → Change → List C → List C → List C
+changed G Add r ys = tuple-plus G r ys
+changed G Subtract r ys = tuple-less G r ys
+
+-- a single holder that the scheme does not have
+abbrev pub holder-row : Scheme → ℕ → Option CabinetFault
+holder-row s h = row (ltb h 1 || ltb (s .n) h) UnknownHolder
 
 module _ (s : Scheme) where
   -- the lengths of the share memory and of three tuples of scratch memory
@@ -25,7 +36,7 @@ module _ (s : Scheme) where
   -- the number of coefficients, and the holder
   abbrev pub dealing-rows : ℕ → ℕ → List (Option CabinetFault)
   dealing-rows coefficients h =
-      length-row CoefficientCount ((s .t - 1) * (s .q - 1)) coefficients ∷ row (ltb h 1 || ltb (s .n) h) UnknownHolder ∷ []
+      length-row CoefficientCount ((s .t - 1) * (s .q - 1)) coefficients ∷ holder-row s h ∷ []
 
   -- the length of the tuple that is written, and the helpers
   abbrev pub tuple-rows : ℕ → List ℕ → List (Option CabinetFault)

@@ -19,6 +19,8 @@ pub enum CabinetFault {
     InvalidCoefficient(usize),
     // A single holder that the scheme does not have.
     UnknownHolder,
+    // Revoking a holder whose share is missing, or repairing one whose share is present.
+    WrongPresence,
     // Not exactly as many helpers as the threshold: how many there are.
     HelperCount(usize),
     // A helper that the scheme does not have: its position.
@@ -44,6 +46,7 @@ impl CabinetFault {
             CabinetFault::CoefficientCount(_) => 7,
             CabinetFault::InvalidCoefficient(_) => 8,
             CabinetFault::UnknownHolder => 9,
+            CabinetFault::WrongPresence => 10,
             CabinetFault::HelperCount(_) => 11,
             CabinetFault::UnknownHelper(_) => 12,
             CabinetFault::RepeatedHelper(_) => 13,
@@ -59,7 +62,8 @@ impl CabinetFault {
             CabinetFault::Scheme
             | CabinetFault::EpochLimit
             | CabinetFault::InvalidKey
-            | CabinetFault::UnknownHolder => 0,
+            | CabinetFault::UnknownHolder
+            | CabinetFault::WrongPresence => 0,
             CabinetFault::MemoryLength(place)
             | CabinetFault::InvalidShare(place)
             | CabinetFault::CoefficientCount(place)

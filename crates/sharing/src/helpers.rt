@@ -6,6 +6,7 @@ ghost use lib.ListN.{length};
 ghost use Rattle.algebra.specs.Rows.{first-place};
 ghost use Rattle.sharing.specs.Verdicts.{first, verdict};
 ghost use Rattle.sharing.specs.Helpers.{unknown-at, repeated-at, helper-rows};
+ghost use Rattle.sharing.specs.Shares.{holder-row};
 
 // The first position of a number that is none of 1 to n.
 fn first_unknown(n: usize, helpers: &[u32]) -> Option<usize>
@@ -57,6 +58,16 @@ pub fn check_helpers(scheme: Scheme, helpers: &[u32]) -> Result<(), CabinetFault
     }
     if let Some(i) = first_repeated(helpers) {
         return Err(CabinetFault::RepeatedHelper(i));
+    }
+    Ok(())
+}
+
+// Refuses a single holder that the scheme does not have.
+pub fn check_holder(scheme: Scheme, holder: u32) -> Result<(), CabinetFault>
+    ensures { λ r. ⌜ r ≡ verdict (holder-row scheme holder) ⌝ }
+{
+    if holder < 1 || holder as usize > scheme.n {
+        return Err(CabinetFault::UnknownHolder);
     }
     Ok(())
 }

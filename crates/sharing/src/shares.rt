@@ -2,8 +2,10 @@ use crate::dealing::deal_into;
 use crate::dealing::interpolate;
 use crate::fault::CabinetFault;
 use crate::helpers::check_helpers;
+use crate::helpers::check_holder;
 use crate::scheme::Scheme;
 use crate::tuples::add_into;
+use crate::tuples::subtract_into;
 use groups::group::Group;
 ghost use mathlib.Core.Path.{_≡_};
 ghost use mathlib.Core.List.{_++_};
@@ -11,11 +13,18 @@ ghost use Prim.Native.Nat.{ℕ, _+_, _-_, _*_, _<_, _≤_};
 ghost use lib.Dec.{T};
 ghost use lib.ListN.{length, getD};
 ghost use Rattle.std.specs.Results.{Cases};
-ghost use Rattle.algebra.specs.Tuples.{all-valid, tuple-plus};
+ghost use Rattle.algebra.specs.Tuples.{all-valid};
 ghost use Rattle.algebra.specs.Rows.{row-at, put-row};
 ghost use Rattle.algebra.specs.Dealing.{dealt, tuple-at};
 ghost use Rattle.sharing.specs.Verdicts.{first, verdict};
-ghost use Rattle.sharing.specs.Shares.{length-rows, dealing-rows, tuple-rows, Interpolated};
+ghost use Rattle.sharing.specs.Shares.{changed, length-rows, dealing-rows, tuple-rows, Interpolated};
+
+// Whether what is dealt is added to a share or taken from it.
+#[derive(Clone, Copy)]
+pub enum Change {
+    Add,
+    Subtract,
+}
 
 // Refuses share memory and scratch memory of wrong lengths.
 fn check_lengths(scheme: Scheme, shares: usize, scratch: usize) -> Result<(), CabinetFault>
@@ -37,10 +46,7 @@ fn check_dealing(scheme: Scheme, coefficients: usize, holder: u32) -> Result<(),
     if coefficients != scheme.coefficient_count() {
         return Err(CabinetFault::CoefficientCount(scheme.coefficient_count()));
     }
-    if holder < 1 || holder as usize > scheme.n {
-        return Err(CabinetFault::UnknownHolder);
-    }
-    Ok(())
+    check_holder(scheme, holder)
 }
 
 // Refuses a tuple of a wrong length, and a list that is not of t different holders of the scheme.
@@ -53,9 +59,22 @@ fn check_tuple(scheme: Scheme, out: usize, helpers: &[u32]) -> Result<(), Cabine
     check_helpers(scheme, helpers)
 }
 
-// Adds a tuple to the row h of the share memory, and leaves the other rows.
-fn add_row<G: Group>(
+// Adds `from` to `to`, or takes it from `to`.
+fn change_into<G: Group>(group: &G, change: Change, to: &mut [G::Element], from: &[G::Element])
+    requires { ⌜ length (now from) ≡ length (now to) ⌝ }
+    ensures { λ _. ⌜ (T (all-valid (ops (now (group .entry))) (now (to .entry))) → T (all-valid (ops (now (group .entry))) (now (from .entry))) → now (to .exit) ≡ changed (ops (now (group .entry))) change (now (to .entry)) (now (from .entry))) ⌝ }
+{
+    match change {
+        Change::Add => add_into(group, to, from),
+        Change::Subtract => subtract_into(group, to, from),
+    }
+}
+
+// Adds a tuple to the row h of the share memory, or takes it from that row, and leaves the other
+// rows.
+fn change_row<G: Group>(
     group: &G,
+    change: Change,
     width: usize,
     h: usize,
     tuple: &[G::Element],
@@ -63,17 +82,18 @@ fn add_row<G: Group>(
 )
     requires tuple { ⌜ length (now tuple) ≡ width ⌝ }
     requires within { ⌜ h * width + width ≤ length (now shares) ⌝ }
-    ensures { λ _. ⌜ (T (all-valid (ops (now (group .entry))) (now (shares .entry))) → T (all-valid (ops (now (group .entry))) (now (tuple .entry))) → now (shares .exit) ≡ put-row width h (tuple-plus (ops (now (group .entry))) (row-at width h (now (shares .entry))) (now (tuple .entry))) (now (shares .entry))) ⌝ }
+    ensures { λ _. ⌜ (T (all-valid (ops (now (group .entry))) (now (shares .entry))) → T (all-valid (ops (now (group .entry))) (now (tuple .entry))) → now (shares .exit) ≡ put-row width h (changed (ops (now (group .entry))) change (row-at width h (now (shares .entry))) (now (tuple .entry))) (now (shares .entry))) ⌝ }
 {
     let start = h * width;
     let row = &mut shares[start..start + width];
-    add_into(group, row, tuple);
+    change_into(group, change, row, tuple);
 }
 
-// Adds to the row h of the share memory what its holder is dealt.
+// Adds to the row h of the share memory what its holder is dealt, or takes that from it.
 fn deal_row<G: Group>(
     group: &G,
     scheme: Scheme,
+    change: Change,
     h: usize,
     key: G::Element,
     coefficients: &[G::Element],
@@ -84,17 +104,18 @@ fn deal_row<G: Group>(
     requires full { ⌜ length (now shares) ≡ scheme .n * (scheme .q - 1) ⌝ }
     requires room { ⌜ length (now scratch) ≡ 3 * (scheme .q - 1) ⌝ }
     requires count { ⌜ length (now coefficients) ≡ (scheme .t - 1) * (scheme .q - 1) ⌝ }
-    ensures { λ _. ⌜ (T (all-valid (ops (now (group .entry))) (now (shares .entry))) → T (ops (now (group .entry)) .valid key) → T (all-valid (ops (now (group .entry))) (now (coefficients .entry))) → now (shares .exit) ≡ put-row (scheme .q - 1) h (tuple-plus (ops (now (group .entry))) (row-at (scheme .q - 1) h (now (shares .entry))) (dealt (ops (now (group .entry))) (scheme .q - 1) (h + 1) key (scheme .t - 1) (now (coefficients .entry)))) (now (shares .entry))) ⌝ }
+    ensures { λ _. ⌜ (T (all-valid (ops (now (group .entry))) (now (shares .entry))) → T (ops (now (group .entry)) .valid key) → T (all-valid (ops (now (group .entry))) (now (coefficients .entry))) → now (shares .exit) ≡ put-row (scheme .q - 1) h (changed (ops (now (group .entry))) change (row-at (scheme .q - 1) h (now (shares .entry))) (dealt (ops (now (group .entry))) (scheme .q - 1) (h + 1) key (scheme .t - 1) (now (coefficients .entry)))) (now (shares .entry))) ⌝ }
 {
     let width = scheme.q - 1;
     let count = scheme.t - 1;
     let (out, rest) = scratch.split_at_mut(width);
     let (product, tmp) = rest.split_at_mut(width);
     deal_into(group, h + 1, key, coefficients, count, out, product, tmp);
-    add_row(group, width, h, out, shares);
+    change_row(group, change, width, h, out, shares);
 }
 
-// Adds to a holder's share what dealing the key with these coefficients gives that holder.
+// Adds to a holder's share what dealing the key with these coefficients gives that holder, or takes
+// that from it.
 //
 // Refuses memory of wrong lengths, a wrong number of coefficients, and a holder that the scheme
 // does not have; a refusal changes nothing. What the scratch memory holds after is left open, and
@@ -102,6 +123,7 @@ fn deal_row<G: Group>(
 pub fn deal_to<G: Group>(
     group: &G,
     scheme: Scheme,
+    change: Change,
     holder: u32,
     key: G::Element,
     coefficients: &[G::Element],
@@ -109,12 +131,12 @@ pub fn deal_to<G: Group>(
     scratch: &mut [G::Element],
 ) -> Result<(), CabinetFault>
     ensures verdict { λ r. ⌜ r ≡ verdict (first (length-rows scheme (length (now (shares .entry))) (length (now (scratch .entry))) ++ dealing-rows scheme (length (now (coefficients .entry))) holder)) ⌝ }
-    ensures share { λ r. ⌜ Cases r (λ _. T (all-valid (ops (now (group .entry))) (now (shares .entry))) → T (ops (now (group .entry)) .valid key) → T (all-valid (ops (now (group .entry))) (now (coefficients .entry))) → now (shares .exit) ≡ put-row (scheme .q - 1) (holder - 1) (tuple-plus (ops (now (group .entry))) (row-at (scheme .q - 1) (holder - 1) (now (shares .entry))) (dealt (ops (now (group .entry))) (scheme .q - 1) holder key (scheme .t - 1) (now (coefficients .entry)))) (now (shares .entry))) (λ _. (now (shares .exit) ≡ now (shares .entry)) × (now (scratch .exit) ≡ now (scratch .entry))) ⌝ }
+    ensures share { λ r. ⌜ Cases r (λ _. T (all-valid (ops (now (group .entry))) (now (shares .entry))) → T (ops (now (group .entry)) .valid key) → T (all-valid (ops (now (group .entry))) (now (coefficients .entry))) → now (shares .exit) ≡ put-row (scheme .q - 1) (holder - 1) (changed (ops (now (group .entry))) change (row-at (scheme .q - 1) (holder - 1) (now (shares .entry))) (dealt (ops (now (group .entry))) (scheme .q - 1) holder key (scheme .t - 1) (now (coefficients .entry)))) (now (shares .entry))) (λ _. (now (shares .exit) ≡ now (shares .entry)) × (now (scratch .exit) ≡ now (scratch .entry))) ⌝ }
 {
     check_lengths(scheme, shares.len(), scratch.len())?;
     check_dealing(scheme, coefficients.len(), holder)?;
     let h = holder as usize - 1;
-    deal_row(group, scheme, h, key, coefficients, shares, scratch);
+    deal_row(group, scheme, change, h, key, coefficients, shares, scratch);
     Ok(())
 }
 

@@ -10,4 +10,4 @@ Inv-loop-h g l =
     let G = g .G·Group .ops (l .self .group) in
     let s = l .self .scheme in
     T (all-valid G (l .entry .shares)) → T (G .valid (l .key)) → T (all-valid G (l .coefficients))
-    → Shared G (g .G·Group·met .laws (l .self .group)) (λ i. dealt G (s .q - 1) i (l .key) (s .t - 1) (l .coefficients)) (s .q - 1) (s .n) (l .self .ledger .holders) (l .entry .shares) (l .h) (l .shares)
+    → Shared G (g .G·Group·met .laws (l .self .group)) (l .change) (λ i. dealt G (s .q - 1) i (l .key) (s .t - 1) (l .coefficients)) (s .q - 1) (s .n) (l .self .ledger .holders) (l .entry .shares) (l .h) (l .shares)

@@ -15,7 +15,7 @@ pub returns-then-not-is-present : need.returns-then-not-is-present
 returns-then-not-is-present g c p q r =
     let G = g .G·Group .ops (c .args .self .now .group) in
     let s = c .args .self .now .scheme in
-    row-kept G (g .G·Group·met .laws (c .args .self .now .group)) (s .q - 1) (c .args .holder - 1) (c .args .shares .now)
+    row-kept G (g .G·Group·met .laws (c .args .self .now .group)) (c .args .change) (s .q - 1) (c .args .holder - 1) (c .args .shares .now)
     (dealt G (s .q - 1) (c .args .holder) (c .args .key) (s .t - 1) (c .args .coefficients .now)) (is-present (c .args .self .now .ledger .holders) (c .args .holder)) (sym (c .if-not-is-present .ensures tt))
 
 pub returns : need.returns
@@ -24,7 +24,7 @@ returns g c =
     let s = c .args .self .now .scheme in
     let lengths = length-rows s (length (c .args .shares .now)) (length (c .args .scratch .now)) in
     let dealing = dealing-rows s (length (c .args .coefficients .now)) (c .args .holder) in
-    dealt-present G (g .G·Group·met .laws (c .args .self .now .group)) (s .q - 1) (c .args .holder - 1) (c .args .key) (c .args .coefficients .now) (c .args .shares .now)
+    dealt-present G (g .G·Group·met .laws (c .args .self .now .group)) (c .args .change) (s .q - 1) (c .args .holder - 1) (c .args .key) (c .args .coefficients .now) (c .args .shares .now)
     (dealt G (s .q - 1) (c .args .holder) (c .args .key) (s .t - 1) (c .args .coefficients .now)) (c .deal-to .last .shares) (is-present (c .args .self .now .ledger .holders) (c .args .holder))
     _ (c .deal-to .result) (first (lengths ++ dealing))
     (dealable s (length (c .args .shares .now)) (length (c .args .scratch .now)) (length (c .args .coefficients .now)) (c .args .holder) (c .pre .full) (c .pre .room) (c .pre .count) (c .pre .low) (c .pre .high))

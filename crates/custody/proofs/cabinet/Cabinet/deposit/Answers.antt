@@ -1,28 +1,6 @@
-use native.Mathlib.Omega.{arith}
-use mathlib.Core.Path.{refl, _∙_, ap}
-use Rattle.std.proofs.shelf.Results.{err-from-errBy}
-use Rattle.std.specs.declared.result.Result.the-variants.{Err}
-use Rattle.history.specs.Calls.{depositing, epoch-is}
-use Rattle.history.proofs.Refusals.{refused-step}
-use Rattle.history.proofs.Stepping.{deposited}
-use Rattle.custody.specs.States.{state-of}
+use mathlib.Core.Path.{refl}
+use Rattle.history.specs.Calls.{depositing}
 use Rattle.custody.proofs.cabinet.Cabinet.deposit.Needs as need
 
-pub returns-in-Break-check-deposit : need.returns-in-Break-check-deposit
-returns-in-Break-check-deposit g c =
-    let C = c .args .self .now in
-    let p = err-from-errBy (c .from-residual .result) (c .from-residual .ensures .1) in
-    record {
-      step = refused-step (g .G·Group .ops (C .group)) (C .scheme) epoch-is (state-of C (c .args .shares .now)) (c .args .working .now) (depositing (c .args .key) (c .args .coefficients .now))
-          (c .from-residual .result) (c .in-Break-check-deposit .field-0 .0) (p .1 ∙ ap Err (p .2)) (c .in-Break-check-deposit .ensures tt);
-      same = (refl, refl, refl);
-    }
-
 pub returns : need.returns
-returns g c =
-    let C = c .args .self .now in
-    record {
-      step = deposited (g .G·Group .ops (C .group)) (g .G·Group·met .laws (C .group)) (C .scheme) (state-of C (c .args .shares .now)) (c .args .working .now) (c .args .key) (c .args .coefficients .now)
-          (c .deal-out .last .shares) (c .fill-zero .last .to) _ (c .in-Continue-check-deposit .ensures tt) (c .in-Continue-deal-out .ensures tt) (c .fill-zero .ensures) (omega arith);
-      same = (refl, refl, refl);
-    }
+returns g c = record { step = c .deal .ensures .step (depositing (c .args .key)) refl refl; same = c .deal .ensures .same }

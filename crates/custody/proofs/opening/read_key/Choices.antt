@@ -4,7 +4,7 @@ use lib.Dec.{T}
 use lib.ListN.{length}
 use Rattle.algebra.specs.Tuples.{all-valid, nonzero-at}
 use Rattle.algebra.specs.Rows.{first-place}
-use Rattle.custody.proofs.calls.read_key.Given as given
+use Rattle.custody.proofs.opening.read_key.Given as given
 
 abbrev pub Inv-loop-i : given.InvT-loop-i
 Inv-loop-i g l =

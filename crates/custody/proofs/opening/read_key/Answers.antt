@@ -4,7 +4,7 @@ use lib.ListN.{length}
 use Rattle.algebra.specs.Tuples.{nonzero-at}
 use Rattle.algebra.proofs.Places.{place-found, place-next}
 use Rattle.history.proofs.Telling.{nonzero-read, told-apart, told-key}
-use Rattle.custody.proofs.calls.read_key.Needs as need
+use Rattle.custody.proofs.opening.read_key.Needs as need
 
 pub returns-then-not-same : need.returns-then-not-same
 returns-then-not-same g c p =
