@@ -20,8 +20,12 @@ pub fn refused<T: Drop>(result: Result<T, CabinetFault>) -> Option<(u32, usize)>
 mod tests {
     use super::*;
     use custody::cabinet::Cabinet;
+    use groups::blocks::Blocks;
+    use groups::blocks::BlocksGroup;
     use groups::sums::Sums;
     use groups::sums::SumsGroup;
+    use groups::units::Units;
+    use groups::units::UnitsGroup;
     use sharing::scheme::Scheme;
     use sharing::shares::tuple_at;
     use std::test::*;
@@ -236,5 +240,80 @@ mod tests {
             check_eq(tuple[i], shares[870 + i])?;
         }
         Ok(())
+    }
+
+    fn block(last: u8) -> [u8; 16] {
+        let mut bytes = [0; 16];
+        bytes[15] = last;
+        bytes
+    }
+
+    #[test]
+    fn blocks_are_shared() -> Result<(), Fail> {
+        let scheme = accepted(Cabinet::<Blocks>::check(2, 2, 4))?;
+        let mut shares = [block(9); 4];
+        let mut working = [block(9); 8];
+        let mut cabinet = Cabinet::make(Blocks, scheme, 1, &mut shares);
+        let coefficients = [block(3), block(6)];
+        accepted(cabinet.deposit(block(5), &coefficients, &mut shares, &mut working))?;
+        check_eq(shares, [block(6), block(6), block(0), block(3)])?;
+        let key = accepted(cabinet.open(&[2, 1], &shares, &mut working))?;
+        check_eq(key, block(5))
+    }
+
+    #[test]
+    fn units_are_shared() -> Result<(), Fail> {
+        let group = accepted(Units::new(15))?;
+        let scheme = accepted(Cabinet::<Units>::check(2, 2, 4))?;
+        let mut shares = [0; 4];
+        let mut working = [0; 8];
+        let mut cabinet = Cabinet::make(group, scheme, 1, &mut shares);
+        check_eq(shares, [1, 1, 1, 1])?;
+        accepted(cabinet.deposit(2, &[4, 7], &mut shares, &mut working))?;
+        check_eq(shares, [8, 7, 14, 4])?;
+        let key = accepted(cabinet.open(&[1, 2], &shares, &mut working))?;
+        check_eq(key, 2)?;
+        let fault = cabinet.deposit(3, &[4, 7], &mut shares, &mut working);
+        check_eq(refused(fault), Some((6, 0)))
+    }
+
+    #[test]
+    fn a_revoked_share_is_repaired() -> Result<(), Fail> {
+        let group = accepted(Sums::new(10))?;
+        let scheme = accepted(Cabinet::<Sums>::check(2, 3, 12))?;
+        let mut shares = [0; 12];
+        let mut working = [0; 16];
+        let mut cabinet = Cabinet::make(group, scheme, 1, &mut shares);
+        accepted(cabinet.deposit(7, &[1, 2, 3, 4], &mut shares, &mut working))?;
+        check_eq(accepted(cabinet.revoke(2, &mut shares))?, 2)?;
+        check_eq(shares, [8, 2, 3, 4, 0, 0, 0, 0, 5, 6, 9, 2])?;
+        check_eq(refused(cabinet.revoke(2, &mut shares)), Some((10, 0)))?;
+        let missing = cabinet.open(&[1, 2], &shares, &mut working);
+        check_eq(refused(missing), Some((14, 1)))?;
+        let record = accepted(cabinet.holder(2))?;
+        check(!record.present)?;
+        check_eq(record.changed, 1)?;
+        accepted(cabinet.refresh(&[0, 0, 0, 0], &mut shares, &mut working))?;
+        accepted(cabinet.repair(2, &[1, 3], &mut shares, &mut working))?;
+        check_eq(shares, [8, 2, 3, 4, 4, 9, 1, 3, 5, 6, 9, 2])?;
+        check_eq(accepted(cabinet.holder(2))?.changed, 2)?;
+        let key = accepted(cabinet.open(&[2, 3], &shares, &mut working))?;
+        check_eq(key, 7)
+    }
+
+    #[test]
+    fn a_withdrawal_takes_away() -> Result<(), Fail> {
+        let group = accepted(Sums::new(10))?;
+        let scheme = accepted(Cabinet::<Sums>::check(2, 2, 4))?;
+        let mut shares = [0; 4];
+        let mut working = [0; 8];
+        let mut cabinet = Cabinet::make(group, scheme, 1, &mut shares);
+        accepted(cabinet.deposit(7, &[3, 4], &mut shares, &mut working))?;
+        check_eq(
+            accepted(cabinet.withdraw(7, &[3, 4], &mut shares, &mut working))?,
+            2,
+        )?;
+        check_eq(shares, [0, 0, 0, 0])?;
+        check_eq(refused(cabinet.holder(3)), Some((9, 0)))
     }
 }

@@ -1,0 +1,10 @@
+pub mod Memory
+pub mod Lifting
+pub mod Verdicts
+pub mod Along
+pub mod Keeps
+pub mod Laws
+pub mod Steady
+pub mod Masks
+pub mod Hides
+pub mod Whole
