@@ -28,7 +28,7 @@ use Rattle.algebra.proofs.TupleModule.{tuple-sums, tuple-laws, act-list}
 use Rattle.algebra.proofs.RowLists.{take-valid, drop-valid, part-valid, row-before, length-rows}
 use Rattle.algebra.proofs.Theorems.{sharing}
 
-geometric-point : {M : Type 0} (O : ModuleOps M) (e : ℕ) (m : M) → act O (geometric 1 e) m ≡ act O (point e) m
+pub geometric-point : {M : Type 0} (O : ModuleOps M) (e : ℕ) (m : M) → act O (geometric 1 e) m ≡ act O (point e) m
 geometric-point O zero m = refl
 geometric-point O (suc e) m = ap (λ s. O .add m (O .shift s)) (geometric-point O e m)
 

@@ -16,12 +16,8 @@ use Rattle.algebra.specs.Sharing.{value}
 use Rattle.algebra.specs.Rows.{rows}
 use Rattle.algebra.specs.Dealing.{embedded, dealt}
 use Rattle.algebra.proofs.RowLists.{part-row, part-valid, length-rows, getD-rows}
-use Rattle.algebra.proofs.Dealings.{dealt-value}
+use Rattle.algebra.proofs.Dealings.{geometric-point, dealt-value}
 use Rattle.sharing.proofs.Acting.{as-valid, act-valid}
-
-geometric-point : {M : Type 0} (O : ModuleOps M) (e : ℕ) (m : M) → act O (geometric 1 e) m ≡ act O (point e) m
-geometric-point O zero m = refl
-geometric-point O (suc e) m = ap (λ s. O .add m (O .shift s)) (geometric-point O e m)
 
 module _ {C : Type 0} (G : GroupOps C) (L : GroupLaws G) where
   pub embed-zero : (n : ℕ) (k : C) → 0 < n → set (tuple-zero G n) 0 k ≡ embedded G n k
