@@ -9,3 +9,4 @@ pub mod Places
 pub mod RowLists
 pub mod PrimeNumbers
 pub mod Dealings
+pub mod Turning

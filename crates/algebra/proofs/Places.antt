@@ -6,7 +6,7 @@ use Prim.Native.Nat.{ℕ, zero, suc, _+_, _-_, _≤_, _<_}
 use native.Mathlib.Nat.{le-of-suc-le-suc, not-suc-le-zero, suc-inj, add-zero}
 use native.Mathlib.Omega.{arith}
 use lib.ListN.{length, getD, set, take, drop, replicate, length-replicate, getD-replicate}
-use Rattle.std.proofs.shelf.Lists.{take-more, take-more-set, drop-set-lt, drop-drop, getD-drop, getD-read, getD-default, drop-more, drop-all, take-all, nil-from-length}
+use Rattle.std.proofs.shelf.Lists.{take-more, take-more-set, drop-set-lt, drop-drop, getD-drop, getD-read, getD-default, drop-more, drop-all, take-all}
 use Rattle.std.specs.declared.option.Option.{Option}
 use Rattle.std.specs.declared.option.Option.the-variants.{Some, None}
 use Rattle.algebra.specs.Group.{GroupOps}
@@ -73,9 +73,6 @@ all-from-nowhere G xs e = all-from-each G xs (λ k l. let a : 0 + k ≡ k = omeg
 module _ {C : Type 0} (G : GroupOps C) where
   pub zero-at : (n i : ℕ) (v : C) → i < n → v ≡ G .zero → v ≡ getD (tuple-zero G n) i v
   zero-at n i v h e = e ∙ sym (getD-replicate n i (G .zero) v h)
-
-  pub times-none : (xs ys : List C) → length xs ≡ 0 → length xs ≡ length ys → ys ≡ times-x G xs
-  times-none xs ys e f = nil-from-length ys (sym f ∙ e) ∙ sym (ap (times-x G) (nil-from-length xs e))
 
   pub getD-plus : (xs ys : List C) (i : ℕ) (d : C) → i < length xs → i < length ys → getD (tuple-plus G xs ys) i d ≡ G .plus (getD xs i d) (getD ys i d)
   getD-plus [] ys i d h k = absurd (not-suc-le-zero h)

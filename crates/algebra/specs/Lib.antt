@@ -9,3 +9,4 @@ pub mod Theorems
 pub mod Primes
 pub mod Rows
 pub mod Dealing
+pub mod Turns

@@ -9,7 +9,7 @@ use lib.ListN.{length, getD}
 use Rattle.std.proofs.shelf.Lists.{getD-read}
 use Rattle.std.specs.declared.option.Option.the-variants.{Some}
 use Rattle.algebra.specs.Group.{GroupOps, GroupLaws}
-use Rattle.algebra.specs.Tuples.{all-valid, invalid-at, tuple-plus, tuple-minus, times-x, list-ops}
+use Rattle.algebra.specs.Tuples.{all-valid, invalid-at, tuple-plus, tuple-minus, list-ops}
 use Rattle.algebra.specs.Space.{ok-length, ok-valid, ok-of}
 use Rattle.algebra.specs.Scalars.{Scalar, times, minus, act, power, geometric}
 use Rattle.algebra.specs.Rows.{first-place}
@@ -26,10 +26,6 @@ module _ {C : Type 0} (G : GroupOps C) (xs : List C) (i : ℕ) (x : C) (h : i < 
 
   pub invalid-passed : true ≡ G .valid x → first-place (invalid-at G xs) i (length xs - i) ≡ first-place (invalid-at G xs) 0 (length xs) → first-place (invalid-at G xs) (i + 1) (length xs - (i + 1)) ≡ first-place (invalid-at G xs) 0 (length xs)
   invalid-passed e inv = place-next (invalid-at G xs) i (length xs) h (invalid-is true e) inv
-
--- a sum with b, which is the negative of e
-pub less-read : {C : Type 0} (G : GroupOps C) (a b e v : C) → v ≡ G .plus a b → b ≡ G .minus e → v ≡ G .plus a (G .minus e)
-less-read G a b e v s t = s ∙ ap (G .plus a) t
 
 module _ {C : Type 0} (G : GroupOps C) (L : GroupLaws G) where
   pub as-valid : (xs ys : List C) → xs ≡ ys → T (all-valid G ys) → T (all-valid G xs)
@@ -58,15 +54,6 @@ module _ {C : Type 0} (G : GroupOps C) (L : GroupLaws G) where
         → (T (all-valid G mid) → after ≡ tuple-minus G mid)
         → after ≡ act (list-ops G w) (minus s) m
     negated s mid after e f = f (as-valid mid (act (list-ops G w) s m) e (act-valid s)) ∙ ap (tuple-minus G) e
-
-    pub power-step : (i : ℕ) (out tmp copy : List C)
-        → out ≡ act (list-ops G w) (power i) m
-        → (T (all-valid G out) → tmp ≡ times-x G out)
-        → copy ≡ tmp
-        → copy ≡ act (list-ops G w) (power (i + 1)) m
-    power-step i out tmp copy e moved same =
-        same ∙ moved (as-valid out (act (list-ops G w) (power i) m) e (act-valid (power i))) ∙ ap (times-x G) e
-        ∙ sym (ap (λ (k : ℕ). act (list-ops G w) (power k) m) (add-one i))
 
     pub geometric-step : (d i : ℕ) (out turned after : List C)
         → out ≡ act (list-ops G w) (geometric d i) m

@@ -1,10 +1,9 @@
 use crate::tuples::add_into;
 use crate::tuples::fill_zero;
-use crate::tuples::mul_x;
 use crate::tuples::negate;
 use groups::group::Group;
 ghost use mathlib.Core.Path.{_≡_};
-ghost use Prim.Native.Nat.{ℕ, _-_, _≤_, _<_};
+ghost use Prim.Native.Nat.{ℕ, _+_, _-_, _≤_, _<_};
 ghost use lib.Dec.{T};
 ghost use lib.ListN.{length, getD};
 ghost use Rattle.algebra.specs.Dealing.{weight-at};
@@ -12,16 +11,29 @@ ghost use Rattle.algebra.specs.Primes.{inverse-number};
 ghost use Rattle.algebra.specs.Scalars.{times, act, power, point, geometric};
 ghost use Rattle.algebra.specs.Sharing.{difference, inverse, factor};
 ghost use Rattle.algebra.specs.Tuples.{all-valid, list-ops};
+ghost use Rattle.algebra.specs.Turns.{turned-from};
 
-// Multiplies `m` by x^k, by way of `tmp`.
+// What comes to the place i where `m` and one zero after it make a turn by k places.
+fn turned<G: Group>(g: &G, k: usize, m: &[G::Element], i: usize) -> G::Element
+    requires turn { ⌜ k ≤ length (now m) + 1 ⌝ }
+    requires place { ⌜ i ≤ length (now m) ⌝ }
+    ensures { λ r. ⌜ r ≡ getD (now (m .entry)) (turned-from (length (now (m .entry))) k i) (ops (now (g .entry)) .zero) ⌝ }
+{
+    let from = if i < k { m.len() - (k - i - 1) } else { i - k };
+    if from < m.len() { m[from] } else { g.zero() }
+}
+
+// Multiplies `m` by x^k, by way of `tmp`: a turn by k places, less what comes to the zero's.
 pub(crate) fn mul_power<G: Group>(g: &G, k: usize, m: &mut [G::Element], tmp: &mut [G::Element])
-    requires { ⌜ length (now tmp) ≡ length (now m) ⌝ }
+    requires turn { ⌜ k ≤ length (now m) + 1 ⌝ }
+    requires tmp { ⌜ length (now tmp) ≡ length (now m) ⌝ }
     ensures { λ _. ⌜ (T (all-valid (ops (now (g .entry))) (now (m .entry))) → now (m .exit) ≡ act (list-ops (ops (now (g .entry))) (length (now (m .entry)))) (power k) (now (m .entry))) ⌝ }
 {
-    for done in 0..k {
-        mul_x(g, m, tmp);
-        m.copy_from_slice(tmp);
+    let back = g.negative(turned(g, k, m, m.len()));
+    for i in 0..m.len() {
+        tmp[i] = g.sum(turned(g, k, m, i), back);
     }
+    m.copy_from_slice(tmp);
 }
 
 // Writes 1 + x^d + .. + x^(d(e-1)) times `m` to `out`, by way of `tmp`.
@@ -33,6 +45,7 @@ pub(crate) fn mul_geometric<G: Group>(
     out: &mut [G::Element],
     tmp: &mut [G::Element],
 )
+    requires turn { ⌜ d ≤ length (now m) + 1 ⌝ }
     requires out { ⌜ length (now out) ≡ length (now m) ⌝ }
     requires tmp { ⌜ length (now tmp) ≡ length (now m) ⌝ }
     ensures { λ _. ⌜ (T (all-valid (ops (now (g .entry))) (now (m .entry))) → now (out .exit) ≡ act (list-ops (ops (now (g .entry))) (length (now (m .entry)))) (geometric d e) (now (m .entry))) ⌝ }
@@ -54,6 +67,8 @@ pub(crate) fn mul_term<G: Group>(
     product: &mut [G::Element],
     tmp: &mut [G::Element],
 )
+    requires turn { ⌜ a ≤ length (now m) + 1 ⌝ }
+    requires turns { ⌜ d ≤ length (now m) + 1 ⌝ }
     requires product { ⌜ length (now product) ≡ length (now m) ⌝ }
     requires tmp { ⌜ length (now tmp) ≡ length (now m) ⌝ }
     ensures { λ _. ⌜ (T (all-valid (ops (now (g .entry))) (now (m .entry))) → now (m .exit) ≡ act (list-ops (ops (now (g .entry))) (length (now (m .entry)))) (times (power a) (geometric d e)) (now (m .entry))) ⌝ }
@@ -72,6 +87,7 @@ pub(crate) fn mul_difference<G: Group>(
     product: &mut [G::Element],
     tmp: &mut [G::Element],
 )
+    requires turn { ⌜ k ≤ length (now m) + 1 ⌝ }
     requires product { ⌜ length (now product) ≡ length (now m) ⌝ }
     requires tmp { ⌜ length (now tmp) ≡ length (now m) ⌝ }
     ensures { λ _. ⌜ (T (all-valid (ops (now (g .entry))) (now (m .entry))) → now (m .exit) ≡ act (list-ops (ops (now (g .entry))) (length (now (m .entry)))) (difference k j) (now (m .entry))) ⌝ }
@@ -110,6 +126,7 @@ pub(crate) fn mul_inverse<G: Group>(
     requires small { ⌜ q ≤ 31 ⌝ }
     requires k { ⌜ k < q ⌝ }
     requires j { ⌜ j < q ⌝ }
+    requires m { ⌜ length (now m) ≡ q - 1 ⌝ }
     requires product { ⌜ length (now product) ≡ length (now m) ⌝ }
     requires tmp { ⌜ length (now tmp) ≡ length (now m) ⌝ }
     ensures { λ _. ⌜ (T (all-valid (ops (now (g .entry))) (now (m .entry))) → now (m .exit) ≡ act (list-ops (ops (now (g .entry))) (length (now (m .entry)))) (inverse q (inverse-number q) k j) (now (m .entry))) ⌝ }

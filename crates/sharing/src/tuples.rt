@@ -3,7 +3,7 @@ ghost use mathlib.Core.Path.{_≡_};
 ghost use lib.Dec.{T};
 ghost use lib.ListN.{length};
 ghost use Rattle.algebra.specs.Rows.{first-place};
-ghost use Rattle.algebra.specs.Tuples.{all-valid, invalid-at, tuple-zero, tuple-plus, tuple-minus, tuple-less, times-x};
+ghost use Rattle.algebra.specs.Tuples.{all-valid, invalid-at, tuple-zero, tuple-plus, tuple-minus, tuple-less};
 
 // Writes zero everywhere.
 pub fn fill_zero<G: Group>(g: &G, to: &mut [G::Element])
@@ -53,21 +53,5 @@ pub(crate) fn negate<G: Group>(g: &G, to: &mut [G::Element])
 {
     for i in 0..to.len() {
         to[i] = g.negative(to[i]);
-    }
-}
-
-// Writes x times `from` to `to`: each element moves one place on, less the last.
-pub(crate) fn mul_x<G: Group>(g: &G, from: &[G::Element], to: &mut [G::Element])
-    requires { ⌜ length (now from) ≡ length (now to) ⌝ }
-    ensures { λ _. ⌜ (T (all-valid (ops (now (g .entry))) (now (from .entry))) → now (to .exit) ≡ times-x (ops (now (g .entry))) (now (from .entry))) ⌝ }
-{
-    let n = from.len();
-    if n == 0 {
-        return;
-    }
-    let back = g.negative(from[n - 1]);
-    to[0] = back;
-    for i in 1..n {
-        to[i] = g.sum(from[i - 1], back);
     }
 }

@@ -1,4 +1,6 @@
 // Worked cases of the cabinet, with their numbers: the tests below.
+pub mod life;
+
 use sharing::fault::CabinetFault;
 ghost use mathlib.Core.Path.{_≡_};
 ghost use Rattle.std.specs.Results.{Cases};
@@ -19,6 +21,7 @@ pub fn refused<T: Drop>(result: Result<T, CabinetFault>) -> Option<(u32, usize)>
 #[cfg(test)]
 mod tests {
     use super::*;
+    use crate::life::lifetime;
     use custody::cabinet::Cabinet;
     use groups::blocks::Blocks;
     use groups::blocks::BlocksGroup;
@@ -315,5 +318,26 @@ mod tests {
         )?;
         check_eq(shares, [0, 0, 0, 0])?;
         check_eq(refused(cabinet.holder(3)), Some((9, 0)))
+    }
+
+    #[test]
+    fn a_lifetime_ends_in_the_total() -> Result<(), Fail> {
+        let group = accepted(Sums::new(10))?;
+        let scheme = accepted(Cabinet::<Sums>::check(2, 3, 12))?;
+        let mut shares = [9; 12];
+        let mut working = [9; 16];
+        let key = accepted(lifetime(
+            group,
+            scheme,
+            7,
+            3,
+            &[1, 2, 3, 4],
+            2,
+            &[1, 3],
+            &mut shares,
+            &mut working,
+        ))?;
+        check_eq(key, 4)?;
+        check_eq(shares, [5, 2, 3, 4, 1, 9, 1, 3, 2, 6, 9, 2])
     }
 }

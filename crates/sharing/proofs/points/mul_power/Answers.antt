@@ -1,9 +1,14 @@
-use mathlib.Core.Path.{refl}
-use lib.ListN.{length}
-use Rattle.sharing.proofs.Acting.{power-step}
+use native.Mathlib.Omega.{arith}
+use Rattle.algebra.proofs.Turning.{turn-step, turn-end}
 use Rattle.sharing.proofs.points.mul_power.Needs as need
 
-pub loop-done-again : need.loop-done-again
-loop-done-again g c p =
-    power-step (g .G·Group .ops (c .args .g .now)) (g .G·Group·met .laws (c .args .g .now)) (length (c .args .m .now)) (c .args .m .now) refl p
-    (c .loop-done .done) (c .loop-done .m) (c .mul-x .last .to) (c .copy-from-slice .last .self) (c .loop-done .inv p) (c .mul-x .ensures) (c .copy-from-slice .ensures .after)
+pub loop-i-again : need.loop-i-again
+loop-i-again g c p =
+    turn-step (g .G·Group .ops (c .args .g .now)) (g .G·Group·met .laws (c .args .g .now)) (c .args .m .now) (c .args .k) (c .loop-i .i) (c .loop-i .tmp)
+    (c .turned .result) (c .negative-back .result) (c .turned-in-loop-i .result) (c .sum .result) (c .pre .turn) (omega arith) (omega arith) p
+    (c .turned .ensures) (c .negative-back .ensures) (c .turned-in-loop-i .ensures) (c .sum .ensures) (c .loop-i .inv p)
+
+pub returns : need.returns
+returns g c p =
+    turn-end (g .G·Group .ops (c .args .g .now)) (g .G·Group·met .laws (c .args .g .now)) (c .args .m .now) (c .args .k) (c .loop-i .i) (c .loop-i .tmp) (c .copy-from-slice .last .self)
+    (omega arith) (omega arith) (c .copy-from-slice .ensures .after) (c .loop-i .inv p)
