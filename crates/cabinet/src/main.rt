@@ -1,4 +1,6 @@
 // The console program: reads lines from standard input, and answers each as soon as it is read.
+#![tactic(auto)]
+
 use console::console::Console;
 use lines::reader::LineReader;
 use std::alloc::AllocError;

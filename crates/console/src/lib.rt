@@ -1,4 +1,6 @@
 // The console: a line comes in, the cabinet does what it says, and an answer comes out.
+#![tactic(auto)]
+
 pub mod console;
 pub mod fault;
 pub mod held;

@@ -36,7 +36,7 @@ gcd a b = gcd_within b a b
 abbrev pub units : ℕ → GroupOps ℕ
 units m = record {
   valid = λ a. both (nat_le 1 a) (both (nat_lt a m) (gcd a m == 1));
-  same = eqb;
+  same = λ a b. a == b;
   zero = 1;
   plus = λ a b. (a * b) % m;
   minus = inverse_number m;

@@ -1,4 +1,6 @@
 // Commutative groups of keys: what a group is, and the groups that the cabinet brings.
+#![tactic(auto)]
+
 pub mod blocks;
 mod bytes;
 pub mod encoded;

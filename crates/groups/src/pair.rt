@@ -1,4 +1,4 @@
-ghost use Rattle.std.specs.Prelude.{◌≡◌, ◌≤◌, MatchResult};
+ghost use Rattle.std.specs.Prelude.{◌≡◌, ◌≤◌, ⊤, MatchResult};
 ghost use Rattle.groups.specs.Forms.{pair_form};
 ghost use Rattle.groups.specs.Pairs.{pairs};
 ghost use Rattle.groups.specs.Sums.{InRange};
@@ -11,6 +11,7 @@ use crate::encoded::{EncodedGroup, ShortGroup};
 use crate::fault::GroupFault;
 use crate::group::Group;
 use crate::sums::Sums;
+use std::alloc::AllocError;
 
 // Pairs of elements of two groups, part by part.
 pub struct Pair<A, B> {
@@ -19,6 +20,16 @@ pub struct Pair<A, B> {
     first: A,
     second: B,
     ghost named: { (1 ≤ id) × (id ≤ 255) },
+}
+
+impl<A: Copy, B: Copy> Clone for Pair<A, B> {
+    ghost is_clone = { λ pair copy. copy ≡ pair };
+
+    ghost is_infallible = { λ _. ⊤ };
+
+    fn clone(&self) -> Result<Self, AllocError> {
+        Ok(*self)
+    }
 }
 
 impl<A: Copy, B: Copy> Copy for Pair<A, B> {}

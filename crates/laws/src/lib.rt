@@ -1,4 +1,6 @@
 // The laws of every history of a cabinet, as theory: this crate's work is in specs/ and proofs/.
+#![tactic(auto)]
+
 ghost use Rattle.laws.specs.Promises.{OpensToTotal, SharesAsDealt, FewSharesTellNothing};
 
 use groups::group::Group;

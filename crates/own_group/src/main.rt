@@ -1,4 +1,6 @@
 // A key cabinet over a group of our own: the turns of a valve.
+#![tactic(auto)]
+
 mod turns;
 
 use crate::turns::{Turn, Turns};

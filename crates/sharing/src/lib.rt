@@ -2,6 +2,8 @@
 //
 // The tuples' inner arithmetic asks its callers for the right lengths; what the crate offers
 // refuses them instead.
+#![tactic(auto)]
+
 mod dealing;
 pub mod fault;
 pub mod helpers;

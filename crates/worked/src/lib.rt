@@ -1,4 +1,6 @@
 // Worked cases of the cabinet, with their numbers: the tests below.
+#![tactic(auto)]
+
 pub mod life;
 
 ghost use Rattle.std.specs.Prelude.{◌≡◌, IfOk, Some, None, Ok, MatchResult};

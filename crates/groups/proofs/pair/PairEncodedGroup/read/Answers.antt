@@ -57,5 +57,5 @@ returns g c =
     let K = g.met.B.EncodedGroup.encoded s.second in
     let xs = c.args.bytes.now in
     let mid = c.width-middle.result in
-    both_read G H F E L K xs mid c.width-middle.ensures s.id s.modulus c.in-ok-first.first c.in-ok-second.second c.in-ok-first.ensures
-    c.in-ok-second.ensures
+    both_read G H F E L K xs mid c.width-middle.ensures s.id s.modulus c.in_ok-first.first c.in_ok-second.second c.in_ok-first.ensures
+    c.in_ok-second.ensures

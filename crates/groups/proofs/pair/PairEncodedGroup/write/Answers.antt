@@ -5,7 +5,7 @@ use Rattle.groups.proofs.pair.PairEncodedGroup.write.Goals as goal
 pub returns : goal.returns
 returns g c =
     let s = c.args.self.now in
-    let first = c.in-ok-write.ensures in
+    let first = c.in_ok-write.ensures in
     let G = g.A.Group.ops s.first in
     let H = g.B.Group.ops s.second in
     let F = g.A.EncodedGroup.form s.first in
