@@ -1,8 +1,7 @@
 -- What stands at a place of a tuple, and the step of a loop that writes a list place by place.
-use Rattle.std.proofs.Common.{◌≡◌, ℕ, zero, suc, ◌+◌, ◌-◌, ◌<◌, ◌≤◌, Bool, true, false, cond, not, T, List, [], ◌∷◌, ◌++◌, length, get_or, take, drop, set, replicate, Some, None, Option, sym, refl, ap, ◌∙◌, subst, le_of_suc-le-suc, not-suc-le-zero, add-zero, arith}
-use native.Mathlib.Nat.{suc_inj}
-use lib.ListN.{length-replicate, get_or-replicate}
-use Rattle.std.proofs.lemmas.List.{take_more, take_more_set, drop-set-lt, drop-drop, get_or-drop, get_or_read, get_or_default, drop_more, drop_all, take_all}
+use Rattle.std.proofs.Common.{◌≡◌, ℕ, zero, suc, ◌+◌, ◌-◌, ◌<◌, ◌≤◌, Bool, true, false, cond, not, T, List, [], ◌∷◌, ◌++◌, length, get_or, take, drop, set, Some, None, Option, sym, refl, ap, ◌∙◌, subst, le_of_suc-le-suc, not-suc-le-zero, add-zero, arith}
+use lib.ListN.{get_or-replicate}
+use Rattle.std.proofs.lemmas.List.{take_more, take_more_set, drop-set-lt, drop-drop, get_or-drop, get_or_read, get_or_default, take_all}
 use Rattle.algebra.specs.Group.{GroupOps}
 use Rattle.algebra.specs.Tuples.{all_valid, invalid_at, tuple_zero, tuple_plus, tuple_minus, last, moved, times_x}
 use Rattle.algebra.specs.Valid.{both_of}

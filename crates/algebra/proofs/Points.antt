@@ -2,7 +2,7 @@
 use Rattle.std.proofs.Common.{◌≡◌, ℕ, zero, suc, ◌+◌, ◌-◌, ◌*◌, ◌/◌, ◌%◌, ◌<◌, ◌≤◌, ltb, sym, refl, ap, ◌∙◌, add-sub_of_le, suc-add, mul-zero, zero-add, add-one, arith}
 use Rattle.std.proofs.lemmas.Bool.{cond_both, ltb-true, ltb-false}
 use Rattle.algebra.specs.Module.{ModuleOps, ModuleLaws, first_powers}
-use Rattle.algebra.specs.Scalars.{Scalar, one, root, minus, act, power, point, geometric}
+use Rattle.algebra.specs.Scalars.{Scalar, root, minus, act, power, point, geometric}
 use Rattle.algebra.specs.Sharing.{less, inverse_above, inverse}
 use Rattle.algebra.proofs.Actions.{nil_add, undo, act_add, act_nil, act_comm, ring}
 

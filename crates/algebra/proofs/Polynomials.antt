@@ -1,12 +1,12 @@
 -- Polynomials over a module: their values, sums, factors and quotients.
-use Rattle.std.proofs.Common.{◌≡◌, ℕ, zero, suc, ◌+◌, ◌≤◌, List, [], ◌∷◌, map, length, get_or, sym, refl, ap, ◌∙◌, arith}
+use Rattle.std.proofs.Common.{◌≡◌, ℕ, zero, suc, ◌≤◌, List, [], ◌∷◌, map, length, get_or, sym, refl, ap, ◌∙◌, arith}
 use mathlib.Core.List.{zip_with}
 use Rattle.std.specs.List.{AllByRecursion as All}
 use Rattle.std.proofs.ByRecursion.{All-weaker}
 use Rattle.algebra.specs.Module.{ModuleOps, ModuleLaws}
 use Rattle.algebra.specs.Scalars.{Scalar, one, minus, act}
 use Rattle.algebra.specs.Sharing.{value, repeat, terms, join, grow, cover, less}
-use Rattle.algebra.proofs.Actions.{nil_add, add_left_comm, interchange, undo, neg_nil, act_add, act_nil, act_neg, act_comm, ring}
+use Rattle.algebra.proofs.Actions.{nil_add, interchange, undo, act_add, act_nil, act_neg, act_comm, ring}
 
 module _ {M : Type 0} (O : ModuleOps M) where
   -- the values at b of the polynomial's ends: the quotient of z f(z) - b f(b) by z - b

@@ -1,11 +1,11 @@
 -- Rows of a long list: what a write to one leaves.
-use Rattle.std.proofs.Common.{◌≡◌, ℕ, zero, suc, ◌+◌, ◌-◌, ◌*◌, ◌<◌, ◌≤◌, T, List, [], ◌∷◌, ◌++◌, length, get_or, take, drop, set, sym, refl, ap, ◌∙◌, subst, le_refl, le_of_suc-le-suc, not-suc-le-zero, suc-mul, zero-add, zero-mul, arith}
+use Rattle.std.proofs.Common.{◌≡◌, ℕ, zero, suc, ◌+◌, ◌-◌, ◌*◌, ◌<◌, ◌≤◌, T, List, [], ◌∷◌, ◌++◌, length, get_or, take, drop, set, sym, refl, ap, ◌∙◌, le_refl, le_of_suc-le-suc, not-suc-le-zero, suc-mul, zero-add, zero-mul, arith}
 use Rattle.std.proofs.lemmas.Nat.{mul-le}
 use borrow.Rule.Slice.PartMut.{put_mid}
 use Rattle.std.proofs.lemmas.List.{drop-drop, drop-take, take_at, drop_at, take-append-le, take-take, drop-append-le, length-take-le, length-drop, take-append-drop, nil_from_length}
-use Rattle.algebra.specs.Group.{GroupOps, GroupLaws}
-use Rattle.algebra.specs.Tuples.{all_valid, tuple_plus}
-use Rattle.algebra.specs.Valid.{head_valid, tail_valid, cons_valid, append_valid}
+use Rattle.algebra.specs.Group.{GroupOps}
+use Rattle.algebra.specs.Tuples.{all_valid}
+use Rattle.algebra.specs.Valid.{head_valid, tail_valid, cons_valid}
 use Rattle.algebra.specs.Rows.{rows, row_at, put_row, flat}
 
 module _ {X : Type 0} where

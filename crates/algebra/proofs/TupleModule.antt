@@ -1,11 +1,11 @@
 -- The valid tuples of q - 1 elements are a module in which the first q powers of x sum to zero.
-use Rattle.std.proofs.Common.{◌≡◌, ℕ, zero, suc, ◌+◌, ◌-◌, ◌<◌, ◌≤◌, T, List, [], ◌∷◌, ◌++◌, length, replicate, sym, refl, ap, ◌∙◌, subst, ap₂, le_of_suc-le-suc, not-suc-le-zero, zero-add, add-one, arith, length-append}
+use Rattle.std.proofs.Common.{◌≡◌, ℕ, zero, suc, ◌+◌, ◌-◌, ◌≤◌, T, List, [], ◌∷◌, ◌++◌, length, replicate, sym, refl, ap, ◌∙◌, subst, ap₂, le_of_suc-le-suc, not-suc-le-zero, zero-add, add-one, arith, length-append}
 use mathlib.Core.HLevel.{Σ_prop_path}
 use lib.Dec.{T_prop}
 use lib.ListN.{length-replicate}
 use Rattle.std.proofs.lemmas.List.{append_assoc, append-nil, replicate_more}
 use Rattle.algebra.specs.Group.{GroupOps, GroupLaws}
-use Rattle.algebra.specs.Module.{ModuleOps, ModuleLaws, first_powers}
+use Rattle.algebra.specs.Module.{ModuleLaws, first_powers}
 use Rattle.algebra.specs.Tuples.{all_valid, tuple_zero, tuple_plus, tuple_minus, times_x, ok, list_ops}
 use Rattle.algebra.specs.Valid.{cons_valid, head_valid, tail_valid, append_valid, zero_tuple_valid}
 use Rattle.algebra.specs.Space.{Tuple, tuple_ops, ok_length, ok_valid, ok_of}

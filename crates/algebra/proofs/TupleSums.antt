@@ -1,5 +1,5 @@
 -- What the laws of a commutative group give, on valid elements and on tuples of them.
-use Rattle.std.proofs.Common.{◌≡◌, ℕ, zero, suc, ◌+◌, ◌-◌, ◌<◌, ◌≤◌, T, List, [], ◌∷◌, ◌++◌, length, replicate, sym, refl, ap, ◌∙◌, subst, suc-ne-zero}
+use Rattle.std.proofs.Common.{◌≡◌, ℕ, zero, suc, T, List, [], ◌∷◌, ◌++◌, length, replicate, sym, refl, ap, ◌∙◌, suc-ne-zero}
 use native.Mathlib.Nat.{suc_inj}
 use Rattle.algebra.specs.Group.{GroupOps, GroupLaws}
 use Rattle.algebra.specs.Tuples.{all_valid, tuple_zero, tuple_plus, tuple_minus, last, moved, times_x}

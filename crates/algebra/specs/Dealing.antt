@@ -1,11 +1,11 @@
 -- What a holder is dealt of a key, and the tuple that some shares give at a point.
-use Rattle.std.specs.Prelude.{◌≡◌, ℕ, suc, ◌-◌, ◌*◌, ◌<◌, ◌≤◌, T, List, [], ◌∷◌, length}
+use Rattle.std.specs.Prelude.{◌≡◌, ℕ, ◌-◌, ◌*◌, ◌<◌, ◌≤◌, T, List, ◌∷◌, length}
 use Rattle.std.specs.List.{AllByRecursion as All}
-use Rattle.algebra.specs.Group.{GroupOps, GroupLaws}
+use Rattle.algebra.specs.Group.{GroupOps}
 use Rattle.algebra.specs.Tuples.{all_valid, tuple_zero, list_ops}
 use Rattle.algebra.specs.Scalars.{Scalar, act, point}
 use Rattle.algebra.specs.Sharing.{inverse, terms, total, weight}
-use Rattle.algebra.specs.Theorems.{Distinct, Inverts}
+use Rattle.algebra.specs.Theorems.{Distinct}
 use Rattle.algebra.specs.Primes.{inverse_number}
 use Rattle.algebra.specs.Rows.{rows, row_at}
 

@@ -1,7 +1,7 @@
 -- Polynomials over a module, and the scalars that interpolate them.
 use Rattle.std.specs.Prelude.{ℕ, zero, suc, ◌-◌, cond, List, [], ◌∷◌, ◌==◌, nat_lt}
 use Rattle.algebra.specs.Module.{ModuleOps}
-use Rattle.algebra.specs.Scalars.{Scalar, one, plus, times, minus, act, power, point, geometric}
+use Rattle.algebra.specs.Scalars.{Scalar, one, plus, times, minus, act, power, geometric}
 
 abbrev pub less : Scalar → Scalar → Scalar
 less s t = plus s (minus t)

@@ -1,6 +1,6 @@
 -- The valid tuples of n elements, with their sum and their product with x.
-use Rattle.std.specs.Prelude.{◌≡◌, ℕ, zero, suc, ◌+◌, ◌-◌, T, List, [], ◌∷◌, length, ◌==◌, refl}
-use Rattle.std.proofs.Common.{sym, ap, subst, ◌∙◌, eqb→eq}
+use Rattle.std.specs.Prelude.{◌≡◌, ℕ, T, List, length, ◌==◌}
+use Rattle.std.proofs.Common.{sym, subst, ◌∙◌, eqb→eq}
 use Rattle.std.proofs.Math.Dec.{eqb_refl}
 use Rattle.std.proofs.lemmas.List.{length-replicate}
 use Rattle.algebra.specs.Group.{GroupOps, GroupLaws}

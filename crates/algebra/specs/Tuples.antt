@@ -1,5 +1,5 @@
 -- Tuples of group elements, as lists: they add place by place, and x moves each element one place on, less the last.
-use Rattle.std.specs.Prelude.{ℕ, zero, suc, ◌+◌, ◌-◌, Bool, true, false, not, List, [], ◌∷◌, length, replicate, ◌==◌, slice_index_or}
+use Rattle.std.specs.Prelude.{ℕ, Bool, true, false, not, List, [], ◌∷◌, length, replicate, ◌==◌, slice_index_or}
 use Rattle.algebra.specs.Group.{GroupOps}
 use Rattle.algebra.specs.Module.{ModuleOps}
 

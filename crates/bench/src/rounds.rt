@@ -18,7 +18,7 @@ fn deposit_again<G: Group>(
     working: &mut [G::Element],
 ) -> Result<(), CabinetFault>
     ensures same { SameCabinet cabinet.old cabinet.new }
-    ensures state { MatchResult result (λ _. after (ops cabinet.old.group) cabinet.old.scheme working.old (dealing (depositing key) coefficients.now) rounds (state_of cabinet.old shares.old) ≡ state_of cabinet.new shares.new) (Stopped (ops cabinet.old.group) cabinet.old.scheme working.old (dealing (depositing key) coefficients.now) rounds (state_of cabinet.old shares.old)) }
+    ensures state { MatchResult result (λ _. after (G.ops cabinet.old.group) cabinet.old.scheme working.old (dealing (depositing key) coefficients.now) rounds (state_of cabinet.old shares.old) ≡ state_of cabinet.new shares.new) (Stopped (G.ops cabinet.old.group) cabinet.old.scheme working.old (dealing (depositing key) coefficients.now) rounds (state_of cabinet.old shares.old)) }
 {
     for done in 0..rounds {
         let _ = cabinet.deposit(key, coefficients, shares, working)?;
@@ -34,7 +34,7 @@ fn open_again<G: Group>(
     shares: &[G::Element],
     working: &mut [G::Element],
 ) -> Result<G::Element, CabinetFault>
-    ensures { (step (ops cabinet.now.group) cabinet.now.scheme (state_of cabinet.now shares.now) working.old (opening helpers.now)).answer ≡ answered key_is result }
+    ensures { (step (G.ops cabinet.now.group) cabinet.now.scheme (state_of cabinet.now shares.now) working.old (opening helpers.now)).answer ≡ answered key_is result }
 {
     let key = cabinet.open(helpers, shares, working)?;
     for done in 1..rounds {
@@ -54,7 +54,7 @@ pub(crate) fn deposit_rounds<G: Group + Drop>(
     shares: &mut [G::Element],
     working: &mut [G::Element],
 ) -> Result<(), CabinetFault>
-    ensures { MatchResult result (λ _. Deposited (ops group) t n rounds key coefficients.now working.old shares.new) (Undeposited (ops group) t n rounds key coefficients.now working.old (length shares.old)) }
+    ensures { MatchResult result (λ _. Deposited (G.ops group) t n rounds key coefficients.now working.old shares.new) (Undeposited (G.ops group) t n rounds key coefficients.now working.old (length shares.old)) }
 {
     let scheme = Cabinet::<G>::check(t, n, shares.len())?;
     let mut cabinet = Cabinet::make(group, scheme, 0, shares);
@@ -73,7 +73,7 @@ pub(crate) fn open_rounds<G: Group + Drop>(
     shares: &mut [G::Element],
     working: &mut [G::Element],
 ) -> Result<G::Element, CabinetFault>
-    ensures { MatchResult result (Opened (ops group) t n key coefficients.now helpers.now working.old) (Unopened (ops group) t n key coefficients.now helpers.now working.old (length shares.old)) }
+    ensures { MatchResult result (Opened (G.ops group) t n key coefficients.now helpers.now working.old) (Unopened (G.ops group) t n key coefficients.now helpers.now working.old (length shares.old)) }
 {
     let scheme = Cabinet::<G>::check(t, n, shares.len())?;
     let mut cabinet = Cabinet::make(group, scheme, 0, shares);

@@ -25,7 +25,7 @@ impl<G: Group<Element = u32>> Seat<G> {
     pub fn make(heap: Global, group: G, scheme: Scheme) -> Result<Self, AllocError>
     where
         G: Drop,
-        ensures { IfOk result (λ s. New (λ g. ops g) group scheme (kept_of s)) }
+        ensures { IfOk result (λ s. New (λ g. G.ops g) group scheme (kept_of s)) }
     {
         let mut shares = vec![in heap; 0u32; scheme.share_length()]?;
         let working = vec![in heap; 0u32; scheme.working_length()]?;
@@ -38,7 +38,7 @@ impl<G: Group<Element = u32>> Seat<G> {
     }
 
     fn deposit(&mut self, key: u32, coefficients: &[u32]) -> Result<u32, CabinetFault>
-        ensures { Called (λ g. ops g) (kept_of self.old) (dealing (depositing key) coefficients.now) (answered epoch_is result) (kept_of self.new) }
+        ensures { Called (λ g. G.ops g) (kept_of self.old) (dealing (depositing key) coefficients.now) (answered epoch_is result) (kept_of self.new) }
     {
         let shares = self.shares.as_mut_slice();
         let working = self.working.as_mut_slice();
@@ -46,7 +46,7 @@ impl<G: Group<Element = u32>> Seat<G> {
     }
 
     fn withdraw(&mut self, key: u32, coefficients: &[u32]) -> Result<u32, CabinetFault>
-        ensures { Called (λ g. ops g) (kept_of self.old) (dealing (withdrawing key) coefficients.now) (answered epoch_is result) (kept_of self.new) }
+        ensures { Called (λ g. G.ops g) (kept_of self.old) (dealing (withdrawing key) coefficients.now) (answered epoch_is result) (kept_of self.new) }
     {
         let shares = self.shares.as_mut_slice();
         let working = self.working.as_mut_slice();
@@ -54,7 +54,7 @@ impl<G: Group<Element = u32>> Seat<G> {
     }
 
     fn refresh(&mut self, coefficients: &[u32]) -> Result<u32, CabinetFault>
-        ensures { Called (λ g. ops g) (kept_of self.old) (dealing refreshing coefficients.now) (answered epoch_is result) (kept_of self.new) }
+        ensures { Called (λ g. G.ops g) (kept_of self.old) (dealing refreshing coefficients.now) (answered epoch_is result) (kept_of self.new) }
     {
         let shares = self.shares.as_mut_slice();
         let working = self.working.as_mut_slice();
@@ -62,14 +62,14 @@ impl<G: Group<Element = u32>> Seat<G> {
     }
 
     fn revoke(&mut self, holder: u32) -> Result<u32, CabinetFault>
-        ensures { Called (λ g. ops g) (kept_of self.old) (revoking holder) (answered holder_is result) (kept_of self.new) }
+        ensures { Called (λ g. G.ops g) (kept_of self.old) (revoking holder) (answered holder_is result) (kept_of self.new) }
     {
         let shares = self.shares.as_mut_slice();
         self.cabinet.revoke(holder, shares)
     }
 
     fn repair(&mut self, holder: u32, helpers: &[u32]) -> Result<u32, CabinetFault>
-        ensures { Called (λ g. ops g) (kept_of self.old) (repairing holder helpers.now) (answered holder_is result) (kept_of self.new) }
+        ensures { Called (λ g. G.ops g) (kept_of self.old) (repairing holder helpers.now) (answered holder_is result) (kept_of self.new) }
     {
         let shares = self.shares.as_mut_slice();
         let working = self.working.as_mut_slice();
@@ -77,7 +77,7 @@ impl<G: Group<Element = u32>> Seat<G> {
     }
 
     fn open(&mut self, helpers: &[u32]) -> Result<u32, CabinetFault>
-        ensures { Called (λ g. ops g) (kept_of self.old) (opening helpers.now) (answered key_is result) (kept_of self.new) }
+        ensures { Called (λ g. G.ops g) (kept_of self.old) (opening helpers.now) (answered key_is result) (kept_of self.new) }
     {
         let working = self.working.as_mut_slice();
         self.cabinet.open(helpers, self.shares.as_slice(), working)
@@ -87,7 +87,7 @@ impl<G: Group<Element = u32>> Seat<G> {
     pub(crate) fn obey(&mut self, letter: Letter, fields: &[u32]) -> Result<u32, CabinetFault>
         requires call { letter ≢ Make }
         requires enough { least letter ≤ length fields.now }
-        ensures { Replied (λ g. ops g) (kept_of self.old) (call_of letter fields.now) result (kept_of self.new) }
+        ensures { Replied (λ g. G.ops g) (kept_of self.old) (call_of letter fields.now) result (kept_of self.new) }
     {
         match letter {
             Letter::Make => unreachable(),

@@ -30,7 +30,7 @@ pub(crate) fn check_valid<G: Group>(
     scheme: Scheme,
     shares: &[G::Element],
 ) -> Result<(), CabinetFault>
-    ensures { result ≡ verdict (valid_row (ops group.now) scheme shares.now) }
+    ensures { result ≡ verdict (valid_row (G.ops group.now) scheme shares.now) }
 {
     if let Some(i) = first_invalid(group, shares) {
         return Err(CabinetFault::InvalidShare(i));
@@ -45,7 +45,7 @@ pub(crate) fn check_memory<G: Group>(
     shares: &[G::Element],
     working: usize,
 ) -> Result<(), CabinetFault>
-    ensures { result ≡ verdict (first (memory_rows (ops group.now) scheme shares.now working)) }
+    ensures { result ≡ verdict (first (memory_rows (G.ops group.now) scheme shares.now working)) }
 {
     check_length(scheme, shares.len())?;
     if working != scheme.working_length() {
@@ -63,7 +63,7 @@ pub(crate) fn check_deal<G: Group>(
     key: G::Element,
     coefficients: &[G::Element],
 ) -> Result<(), CabinetFault>
-    ensures { result ≡ verdict (first (keyed_rows (ops group.now) scheme epoch key coefficients.now)) }
+    ensures { result ≡ verdict (first (keyed_rows (G.ops group.now) scheme epoch key coefficients.now)) }
 {
     if epoch >= LAST_EPOCH {
         return Err(CabinetFault::EpochLimit);

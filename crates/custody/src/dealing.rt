@@ -26,7 +26,7 @@ impl<G: Group> Cabinet<G> {
         shares: &[G::Element],
         working: usize,
     ) -> Result<(), CabinetFault>
-        ensures { result ≡ verdict (first (memory_rows (ops self.now.group) self.now.scheme shares.now working ++ keyed_rows (ops self.now.group) self.now.scheme self.now.ledger.epoch key coefficients.now)) }
+        ensures { result ≡ verdict (first (memory_rows (G.ops self.now.group) self.now.scheme shares.now working ++ keyed_rows (G.ops self.now.group) self.now.scheme self.now.ledger.epoch key coefficients.now)) }
     {
         check_memory(&self.group, self.scheme, shares, working)?;
         check_deal(
@@ -53,7 +53,7 @@ impl<G: Group> Cabinet<G> {
         requires full { length shares.old ≡ self.now.scheme.n * (self.now.scheme.q - 1) }
         requires room { length scratch.old ≡ 3 * (self.now.scheme.q - 1) }
         requires count { length coefficients.now ≡ (self.now.scheme.t - 1) * (self.now.scheme.q - 1) }
-        ensures { MatchResult result (λ _. T (all_valid (ops self.now.group) shares.old) → T ((ops self.now.group).valid key) → T (all_valid (ops self.now.group) coefficients.now) → shares.new ≡ put_row (self.now.scheme.q - 1) (holder - 1) (credited (ops self.now.group) change (is_present self.now.ledger.holders holder) (dealt (ops self.now.group) (self.now.scheme.q - 1) holder key (self.now.scheme.t - 1) coefficients.now) (row_at (self.now.scheme.q - 1) (holder - 1) shares.old)) shares.old) (λ _. ⊥) }
+        ensures { MatchResult result (λ _. T (all_valid (G.ops self.now.group) shares.old) → T ((G.ops self.now.group).valid key) → T (all_valid (G.ops self.now.group) coefficients.now) → shares.new ≡ put_row (self.now.scheme.q - 1) (holder - 1) (credited (G.ops self.now.group) change (is_present self.now.ledger.holders holder) (dealt (G.ops self.now.group) (self.now.scheme.q - 1) holder key (self.now.scheme.t - 1) coefficients.now) (row_at (self.now.scheme.q - 1) (holder - 1) shares.old)) shares.old) (λ _. ⊥) }
     {
         if !self.ledger.is_present(holder) {
             return Ok(());
@@ -82,7 +82,7 @@ impl<G: Group> Cabinet<G> {
         requires full { length shares.old ≡ self.now.scheme.n * (self.now.scheme.q - 1) }
         requires room { length working.old ≡ 4 * (self.now.scheme.q - 1) }
         requires count { length coefficients.now ≡ (self.now.scheme.t - 1) * (self.now.scheme.q - 1) }
-        ensures { MatchResult result (λ _. T (all_valid (ops self.now.group) shares.old) → T ((ops self.now.group).valid key) → T (all_valid (ops self.now.group) coefficients.now) → shares.new ≡ keyed_out (ops self.now.group) self.now.scheme change self.now.ledger.holders shares.old key coefficients.now) (λ _. ⊥) }
+        ensures { MatchResult result (λ _. T (all_valid (G.ops self.now.group) shares.old) → T ((G.ops self.now.group).valid key) → T (all_valid (G.ops self.now.group) coefficients.now) → shares.new ≡ keyed_out (G.ops self.now.group) self.now.scheme change self.now.ledger.holders shares.old key coefficients.now) (λ _. ⊥) }
     {
         let n = self.scheme.n as u32;
         let (_, scratch) = working.split_at_mut(self.scheme.width());
@@ -101,7 +101,7 @@ impl<G: Group> Cabinet<G> {
         shares: &mut [G::Element],
         working: &mut [G::Element],
     ) -> Result<u32, CabinetFault>
-        ensures step { Deals (ops self.old.group) self.old.scheme (state_of self.old shares.old) working.old change key coefficients.now (record { answer = answered epoch_is result; state = state_of self.new shares.new; working = working.new }) }
+        ensures step { Deals (G.ops self.old.group) self.old.scheme (state_of self.old shares.old) working.old change key coefficients.now (record { answer = answered epoch_is result; state = state_of self.new shares.new; working = working.new }) }
         ensures same { SameCabinet self.old self.new }
     {
         self.check_dealing(key, coefficients, shares, working.len())?;
@@ -121,7 +121,7 @@ impl<G: Group> Cabinet<G> {
         shares: &mut [G::Element],
         working: &mut [G::Element],
     ) -> Result<u32, CabinetFault>
-        ensures step { step (ops self.old.group) self.old.scheme (state_of self.old shares.old) working.old (dealing (depositing key) coefficients.now) ≡ record { answer = answered epoch_is result; state = state_of self.new shares.new; working = working.new } }
+        ensures step { step (G.ops self.old.group) self.old.scheme (state_of self.old shares.old) working.old (dealing (depositing key) coefficients.now) ≡ record { answer = answered epoch_is result; state = state_of self.new shares.new; working = working.new } }
         ensures same { SameCabinet self.old self.new }
     {
         self.deal(Change::Add, key, coefficients, shares, working)
@@ -137,7 +137,7 @@ impl<G: Group> Cabinet<G> {
         shares: &mut [G::Element],
         working: &mut [G::Element],
     ) -> Result<u32, CabinetFault>
-        ensures step { step (ops self.old.group) self.old.scheme (state_of self.old shares.old) working.old (dealing (withdrawing key) coefficients.now) ≡ record { answer = answered epoch_is result; state = state_of self.new shares.new; working = working.new } }
+        ensures step { step (G.ops self.old.group) self.old.scheme (state_of self.old shares.old) working.old (dealing (withdrawing key) coefficients.now) ≡ record { answer = answered epoch_is result; state = state_of self.new shares.new; working = working.new } }
         ensures same { SameCabinet self.old self.new }
     {
         self.deal(Change::Subtract, key, coefficients, shares, working)
@@ -152,7 +152,7 @@ impl<G: Group> Cabinet<G> {
         shares: &mut [G::Element],
         working: &mut [G::Element],
     ) -> Result<u32, CabinetFault>
-        ensures step { step (ops self.old.group) self.old.scheme (state_of self.old shares.old) working.old (dealing refreshing coefficients.now) ≡ record { answer = answered epoch_is result; state = state_of self.new shares.new; working = working.new } }
+        ensures step { step (G.ops self.old.group) self.old.scheme (state_of self.old shares.old) working.old (dealing refreshing coefficients.now) ≡ record { answer = answered epoch_is result; state = state_of self.new shares.new; working = working.new } }
         ensures same { SameCabinet self.old self.new }
     {
         let zero = self.group.zero();

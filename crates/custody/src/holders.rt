@@ -20,7 +20,7 @@ use sharing::tuples::fill_zero;
 // Sets the row h of the share memory to zeros, and leaves the other rows.
 fn clear_row<G: Group>(group: &G, width: usize, h: usize, shares: &mut [G::Element])
     requires { h * width + width ≤ length shares.old }
-    ensures { shares.new ≡ put_row width h (tuple_zero (ops group.now) width) shares.old }
+    ensures { shares.new ≡ put_row width h (tuple_zero (G.ops group.now) width) shares.old }
 {
     let start = h * width;
     fill_zero(group, &mut shares[start..start + width]);
@@ -39,7 +39,7 @@ fn write_row<E: Copy>(width: usize, h: usize, tuple: &[E], shares: &mut [E])
 impl<G: Group> Cabinet<G> {
     // Refuses a revocation for the first row that applies.
     fn check_revoking(&self, holder: u32, shares: &[G::Element]) -> Result<(), CabinetFault>
-        ensures { result ≡ verdict (fault (ops self.now.group) self.now.scheme (state_of self.now shares.now) 0 (revoking holder)) }
+        ensures { result ≡ verdict (fault (G.ops self.now.group) self.now.scheme (state_of self.now shares.now) 0 (revoking holder)) }
     {
         check_length(self.scheme, shares.len())?;
         check_valid(&self.group, self.scheme, shares)?;
@@ -54,7 +54,7 @@ impl<G: Group> Cabinet<G> {
         shares: &[G::Element],
         working: usize,
     ) -> Result<(), CabinetFault>
-        ensures { result ≡ verdict (fault (ops self.now.group) self.now.scheme (state_of self.now shares.now) working (repairing holder helpers.now)) }
+        ensures { result ≡ verdict (fault (G.ops self.now.group) self.now.scheme (state_of self.now shares.now) working (repairing holder helpers.now)) }
     {
         check_memory(&self.group, self.scheme, shares, working)?;
         check_change(self.scheme, &self.ledger, false, holder)?;
@@ -65,7 +65,7 @@ impl<G: Group> Cabinet<G> {
     //
     // Answers the holder.
     pub fn revoke(&mut self, holder: u32, shares: &mut [G::Element]) -> Result<u32, CabinetFault>
-        ensures step { step (ops self.old.group) self.old.scheme (state_of self.old shares.old) [] (revoking holder) ≡ record { answer = answered holder_is result; state = state_of self.new shares.new; working = [] } }
+        ensures step { step (G.ops self.old.group) self.old.scheme (state_of self.old shares.old) [] (revoking holder) ≡ record { answer = answered holder_is result; state = state_of self.new shares.new; working = [] } }
         ensures same { SameCabinet self.old self.new }
     {
         self.check_revoking(holder, shares)?;
@@ -86,7 +86,7 @@ impl<G: Group> Cabinet<G> {
         shares: &mut [G::Element],
         working: &mut [G::Element],
     ) -> Result<u32, CabinetFault>
-        ensures step { step (ops self.old.group) self.old.scheme (state_of self.old shares.old) working.old (repairing holder helpers.now) ≡ record { answer = answered holder_is result; state = state_of self.new shares.new; working = working.new } }
+        ensures step { step (G.ops self.old.group) self.old.scheme (state_of self.old shares.old) working.old (repairing holder helpers.now) ≡ record { answer = answered holder_is result; state = state_of self.new shares.new; working = working.new } }
         ensures same { SameCabinet self.old self.new }
     {
         self.check_repairing(holder, helpers, shares, working.len())?;

@@ -33,10 +33,10 @@ impl<G: Group> Cabinet<G> {
     // wrong, later calls refuse it.
     pub fn make(group: G, scheme: Scheme, number: u32, shares: &mut [G::Element]) -> Self
         ensures cabinet { (result.group ≡ group) × (result.scheme ≡ scheme) × (result.number ≡ number) × (result.ledger ≡ fresh) }
-        ensures shares { shares.new ≡ tuple_zero (ops group) (length shares.old) }
-        ensures opens_to_total { OpensToTotal (ops group) scheme }
-        ensures shares_as_dealt { SharesAsDealt (ops group) scheme }
-        ensures few_shares_tell_nothing { FewSharesTellNothing (ops group) scheme }
+        ensures shares { shares.new ≡ tuple_zero (G.ops group) (length shares.old) }
+        ensures opens_to_total { OpensToTotal (G.ops group) scheme }
+        ensures shares_as_dealt { SharesAsDealt (G.ops group) scheme }
+        ensures few_shares_tell_nothing { FewSharesTellNothing (G.ops group) scheme }
     {
         fill_zero(&group, shares);
         Cabinet {

@@ -16,7 +16,7 @@ use sharing::tuples::fill_zero;
 // What an opened tuple tells: its coordinate 0 is the key, and the others are zero.
 fn read_key<G: Group>(group: &G, tuple: &[G::Element]) -> Result<G::Element, CabinetFault>
     requires { 0 < length tuple.now }
-    ensures { T (all_valid (ops group.now) tuple.now) → answered key_is result ≡ told (ops group.now) tuple.now }
+    ensures { T (all_valid (G.ops group.now) tuple.now) → answered key_is result ≡ told (G.ops group.now) tuple.now }
 {
     let zero = group.zero();
     for i in 1..tuple.len() {
@@ -35,7 +35,7 @@ impl<G: Group> Cabinet<G> {
         shares: &[G::Element],
         working: usize,
     ) -> Result<(), CabinetFault>
-        ensures { result ≡ verdict (fault (ops self.now.group) self.now.scheme (state_of self.now shares.now) working (opening helpers.now)) }
+        ensures { result ≡ verdict (fault (G.ops self.now.group) self.now.scheme (state_of self.now shares.now) working (opening helpers.now)) }
     {
         check_memory(&self.group, self.scheme, shares, working)?;
         check_list(self.scheme, &self.ledger, helpers)
@@ -48,7 +48,7 @@ impl<G: Group> Cabinet<G> {
         shares: &[G::Element],
         working: &mut [G::Element],
     ) -> Result<G::Element, CabinetFault>
-        ensures { step (ops self.now.group) self.now.scheme (state_of self.now shares.now) working.old (opening helpers.now) ≡ record { answer = answered key_is result; state = state_of self.now shares.now; working = working.new } }
+        ensures { step (G.ops self.now.group) self.now.scheme (state_of self.now shares.now) working.old (opening helpers.now) ≡ record { answer = answered key_is result; state = state_of self.now shares.now; working = working.new } }
     {
         self.check_opening(helpers, shares, working.len())?;
         let (tuple, scratch) = working.split_at_mut(self.scheme.width());

@@ -8,9 +8,9 @@ use sharing::scheme::Scheme;
 
 // The contract is the laws: of every group, every scheme and every list of requests.
 pub fn laws_stand<G: Group>(group: &G, scheme: Scheme) -> u8
-    ensures opens_to_total { OpensToTotal (ops group.now) scheme }
-    ensures shares_as_dealt { SharesAsDealt (ops group.now) scheme }
-    ensures few_shares_tell_nothing { FewSharesTellNothing (ops group.now) scheme }
+    ensures opens_to_total { OpensToTotal (G.ops group.now) scheme }
+    ensures shares_as_dealt { SharesAsDealt (G.ops group.now) scheme }
+    ensures few_shares_tell_nothing { FewSharesTellNothing (G.ops group.now) scheme }
 {
     let _ = group;
     let _ = scheme;

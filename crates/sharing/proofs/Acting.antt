@@ -1,5 +1,5 @@
 -- The steps of the loops that search a tuple, and that multiply one by a scalar.
-use Rattle.std.proofs.Common.{◌≡◌, ℕ, zero, ◌+◌, ◌-◌, ◌<◌, Bool, true, false, not, T, List, length, get_or, Some, sym, ap, ◌∙◌, subst, add-one}
+use Rattle.std.proofs.Common.{◌≡◌, ℕ, ◌+◌, ◌-◌, ◌<◌, Bool, true, false, not, T, List, length, get_or, Some, sym, ap, ◌∙◌, subst, add-one}
 use Rattle.std.proofs.lemmas.List.{get_or_read}
 use Rattle.algebra.specs.Group.{GroupOps, GroupLaws}
 use Rattle.algebra.specs.Tuples.{all_valid, invalid_at, tuple_plus, tuple_minus, list_ops}

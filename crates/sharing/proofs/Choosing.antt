@@ -1,5 +1,5 @@
 -- A list of helpers that no row refuses: t different holders of the scheme.
-use Rattle.std.proofs.Common.{◌≡◌, ℕ, suc, ◌-◌, ◌*◌, ◌<◌, ◌≤◌, Bool, true, false, not, ◌||◌, eqb, ltb, List, [], ◌∷◌, ◌++◌, length, get_or, take, None, Ok, sym, refl, arith}
+use Rattle.std.proofs.Common.{◌≡◌, ℕ, suc, ◌-◌, ◌*◌, ◌<◌, ◌≤◌, false, not, ◌||◌, eqb, ltb, List, [], ◌∷◌, ◌++◌, length, get_or, take, None, Ok, sym, refl, arith}
 use Rattle.std.proofs.lemmas.Bool.{not-false, eqb-true, eqb-false, ltb-false, le-ltb, or_parts, or_from}
 use Rattle.std.specs.List.{AllByRecursion as All}
 use Rattle.algebra.specs.Theorems.{Distinct}

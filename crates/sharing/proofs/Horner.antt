@@ -2,7 +2,6 @@
 use Rattle.std.proofs.Common.{◌≡◌, ℕ, zero, suc, ◌+◌, ◌-◌, ◌*◌, ◌<◌, ◌≤◌, T, List, [], ◌∷◌, length, get_or, take, drop, set, sym, refl, ap, ◌∙◌, ap₂, not-suc-le-zero, arith}
 use Rattle.std.proofs.lemmas.List.{drop_all, drop_more}
 use Rattle.algebra.specs.Group.{GroupOps, GroupLaws}
-use Rattle.algebra.specs.Module.{ModuleOps}
 use Rattle.algebra.specs.Tuples.{all_valid, tuple_zero, tuple_plus, list_ops}
 use Rattle.algebra.specs.Valid.{cons_valid, zero_tuple_valid, plus_tuple_valid}
 use Rattle.algebra.specs.Scalars.{act, point, geometric}

@@ -1,5 +1,5 @@
 -- What a list of helpers is refused for: the rows of the table, in its order.
-use Rattle.std.specs.Prelude.{ℕ, Bool, true, false, not, ◌||◌, List, [], ◌∷◌, length, take, Option, ◌==◌, nat_lt, slice_index}
+use Rattle.std.specs.Prelude.{ℕ, Bool, false, not, ◌||◌, List, [], ◌∷◌, length, take, Option, ◌==◌, nat_lt, slice_index}
 use Rattle.algebra.specs.Rows.{first_place}
 use Rattle.sharing.specs.declared.fault.CabinetFault.{CabinetFault}
 use Rattle.sharing.specs.declared.fault.CabinetFault.TheVariants.{HelperCount, UnknownHelper, RepeatedHelper}

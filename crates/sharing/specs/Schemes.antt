@@ -1,6 +1,5 @@
 -- Which thresholds and numbers of holders make a scheme, and its prime.
-use Rattle.std.specs.Prelude.{◌≡◌, ℕ, ◌≤◌}
-use Rattle.algebra.specs.Primes.{LeastOddPrime}
+use Rattle.std.specs.Prelude.{ℕ, ◌≤◌}
 
 -- t of n holders open a key
 abbrev pub Allowed : ℕ → ℕ → Type 0

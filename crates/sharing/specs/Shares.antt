@@ -1,5 +1,5 @@
 -- What dealing to one holder and taking the tuple at a point are refused for, and what the latter gives.
-use Rattle.std.specs.Prelude.{◌≡◌, ℕ, ◌-◌, ◌*◌, Bool, ◌||◌, T, List, [], ◌∷◌, length, Option, nat_lt}
+use Rattle.std.specs.Prelude.{◌≡◌, ℕ, ◌-◌, ◌*◌, ◌||◌, T, List, [], ◌∷◌, length, Option, nat_lt}
 use Rattle.std.specs.List.{AllByRecursion as All}
 use Rattle.algebra.specs.Group.{GroupOps}
 use Rattle.algebra.specs.Tuples.{all_valid, tuple_plus, tuple_less}

@@ -10,7 +10,7 @@ use groups::group::Group;
 // Writes (key, 0, .., 0) to `out`.
 pub(crate) fn embed<G: Group>(g: &G, key: G::Element, out: &mut [G::Element])
     requires { 0 < length out.old }
-    ensures { out.new ≡ embedded (ops g.now) (length out.old) key }
+    ensures { out.new ≡ embedded (G.ops g.now) (length out.old) key }
 {
     fill_zero(g, out);
     out[0] = key;
@@ -28,7 +28,7 @@ pub(crate) fn mul_point_add<G: Group>(
     requires from { length from.now ≡ length out.old }
     requires product { length product.old ≡ length out.old }
     requires tmp { length tmp.old ≡ length out.old }
-    ensures { T (all_valid (ops g.now) from.now) → T (all_valid (ops g.now) out.old) → out.new ≡ tuple_plus (ops g.now) from.now (act (list_ops (ops g.now) (length out.old)) (point i) out.old) }
+    ensures { T (all_valid (G.ops g.now) from.now) → T (all_valid (G.ops g.now) out.old) → out.new ≡ tuple_plus (G.ops g.now) from.now (act (list_ops (G.ops g.now) (length out.old)) (point i) out.old) }
 {
     mul_geometric(g, 1, i, out, product, tmp);
     out.copy_from_slice(from);
@@ -50,7 +50,7 @@ pub(crate) fn deal_into<G: Group>(
     requires full { length coefficients.now ≡ count * length out.old }
     requires product { length product.old ≡ length out.old }
     requires tmp { length tmp.old ≡ length out.old }
-    ensures { T ((ops g.now).valid key) → T (all_valid (ops g.now) coefficients.now) → out.new ≡ dealt (ops g.now) (length out.old) i key count coefficients.now }
+    ensures { T ((G.ops g.now).valid key) → T (all_valid (G.ops g.now) coefficients.now) → out.new ≡ dealt (G.ops g.now) (length out.old) i key count coefficients.now }
 {
     let width = out.len();
     fill_zero(g, out);
@@ -63,7 +63,7 @@ pub(crate) fn deal_into<G: Group>(
     add_into(g, out, product);
 }
 
-// Writes the tuple that the helpers' shares give at the point p to `result`, by way of `term`,
+// Writes the tuple that the helpers' shares give at the point p to `out`, by way of `term`,
 // `product` and `tmp`.
 pub(crate) fn interpolate<G: Group>(
     g: &G,
@@ -71,7 +71,7 @@ pub(crate) fn interpolate<G: Group>(
     helpers: &[u32],
     p: usize,
     shares: &[G::Element],
-    res: &mut [G::Element],
+    out: &mut [G::Element],
     term: &mut [G::Element],
     product: &mut [G::Element],
     tmp: &mut [G::Element],
@@ -81,19 +81,19 @@ pub(crate) fn interpolate<G: Group>(
     requires low { (i : ℕ) → i < length helpers.now → 1 ≤ slice_index helpers.now i }
     requires below { (i : ℕ) → i < length helpers.now → slice_index helpers.now i < q }
     requires held { (i : ℕ) → i < length helpers.now → slice_index helpers.now i * (q - 1) ≤ length shares.now }
-    requires res { length res.old ≡ q - 1 }
+    requires out { length out.old ≡ q - 1 }
     requires term { length term.old ≡ q - 1 }
     requires product { length product.old ≡ q - 1 }
     requires tmp { length tmp.old ≡ q - 1 }
-    ensures { T (all_valid (ops g.now) shares.now) → res.new ≡ tuple_at (ops g.now) q helpers.now p shares.now }
+    ensures { T (all_valid (G.ops g.now) shares.now) → out.new ≡ tuple_at (G.ops g.now) q helpers.now p shares.now }
 {
     let width = q - 1;
-    fill_zero(g, res);
+    fill_zero(g, out);
     for i in (0..helpers.len()).rev() {
         let j = helpers[i] as usize;
         let a = (j - 1) * width;
         term.copy_from_slice(&shares[a..a + width]);
         mul_weight(g, q, helpers, p, j, term, product, tmp);
-        add_into(g, res, term);
+        add_into(g, out, term);
     }
 }

@@ -13,7 +13,7 @@ use groups::group::Group;
 fn turned<G: Group>(g: &G, k: usize, m: &[G::Element], i: usize) -> G::Element
     requires turn { k ≤ length m.now + 1 }
     requires place { i ≤ length m.now }
-    ensures { result ≡ slice_index_or m.now (turned_from (length m.now) k i) (ops g.now).zero }
+    ensures { result ≡ slice_index_or m.now (turned_from (length m.now) k i) (G.ops g.now).zero }
 {
     let from = if i < k { m.len() - (k - i - 1) } else { i - k };
     if from < m.len() { m[from] } else { g.zero() }
@@ -23,7 +23,7 @@ fn turned<G: Group>(g: &G, k: usize, m: &[G::Element], i: usize) -> G::Element
 pub(crate) fn mul_power<G: Group>(g: &G, k: usize, m: &mut [G::Element], tmp: &mut [G::Element])
     requires turn { k ≤ length m.old + 1 }
     requires tmp { length tmp.old ≡ length m.old }
-    ensures { T (all_valid (ops g.now) m.old) → m.new ≡ act (list_ops (ops g.now) (length m.old)) (power k) m.old }
+    ensures { T (all_valid (G.ops g.now) m.old) → m.new ≡ act (list_ops (G.ops g.now) (length m.old)) (power k) m.old }
 {
     let back = g.negative(turned(g, k, m, m.len()));
     for i in 0..m.len() {
@@ -44,7 +44,7 @@ pub(crate) fn mul_geometric<G: Group>(
     requires turn { d ≤ length m.now + 1 }
     requires out { length out.old ≡ length m.now }
     requires tmp { length tmp.old ≡ length m.now }
-    ensures { T (all_valid (ops g.now) m.now) → out.new ≡ act (list_ops (ops g.now) (length m.now)) (geometric d e) m.now }
+    ensures { T (all_valid (G.ops g.now) m.now) → out.new ≡ act (list_ops (G.ops g.now) (length m.now)) (geometric d e) m.now }
 {
     fill_zero(g, out);
     for done in 0..e {
@@ -67,7 +67,7 @@ pub(crate) fn mul_term<G: Group>(
     requires turns { d ≤ length m.old + 1 }
     requires product { length product.old ≡ length m.old }
     requires tmp { length tmp.old ≡ length m.old }
-    ensures { T (all_valid (ops g.now) m.old) → m.new ≡ act (list_ops (ops g.now) (length m.old)) (times (power a) (geometric d e)) m.old }
+    ensures { T (all_valid (G.ops g.now) m.old) → m.new ≡ act (list_ops (G.ops g.now) (length m.old)) (times (power a) (geometric d e)) m.old }
 {
     mul_geometric(g, d, e, m, product, tmp);
     m.copy_from_slice(product);
@@ -86,7 +86,7 @@ pub(crate) fn mul_difference<G: Group>(
     requires turn { k ≤ length m.old + 1 }
     requires product { length product.old ≡ length m.old }
     requires tmp { length tmp.old ≡ length m.old }
-    ensures { T (all_valid (ops g.now) m.old) → m.new ≡ act (list_ops (ops g.now) (length m.old)) (difference k j) m.old }
+    ensures { T (all_valid (G.ops g.now) m.old) → m.new ≡ act (list_ops (G.ops g.now) (length m.old)) (difference k j) m.old }
 {
     mul_term(g, k.min(j), 1, k.abs_diff(j), m, product, tmp);
     if j < k {
@@ -125,7 +125,7 @@ pub(crate) fn mul_inverse<G: Group>(
     requires m { length m.old ≡ q - 1 }
     requires product { length product.old ≡ length m.old }
     requires tmp { length tmp.old ≡ length m.old }
-    ensures { T (all_valid (ops g.now) m.old) → m.new ≡ act (list_ops (ops g.now) (length m.old)) (inverse q (inverse_number q) k j) m.old }
+    ensures { T (all_valid (G.ops g.now) m.old) → m.new ≡ act (list_ops (G.ops g.now) (length m.old)) (inverse q (inverse_number q) k j) m.old }
 {
     let d = k.abs_diff(j);
     let e = inverse_number(q, d);
@@ -154,7 +154,7 @@ pub(crate) fn mul_factor<G: Group>(
     requires m { length m.old ≡ q - 1 }
     requires product { length product.old ≡ q - 1 }
     requires tmp { length tmp.old ≡ q - 1 }
-    ensures { T (all_valid (ops g.now) m.old) → m.new ≡ act (list_ops (ops g.now) (length m.old)) (factor point (inverse q (inverse_number q)) (point p) j k) m.old }
+    ensures { T (all_valid (G.ops g.now) m.old) → m.new ≡ act (list_ops (G.ops g.now) (length m.old)) (factor point (inverse q (inverse_number q)) (point p) j k) m.old }
 {
     if k == j {
         return;
@@ -181,7 +181,7 @@ pub(crate) fn mul_weight<G: Group>(
     requires m { length m.old ≡ q - 1 }
     requires product { length product.old ≡ q - 1 }
     requires tmp { length tmp.old ≡ q - 1 }
-    ensures { T (all_valid (ops g.now) m.old) → m.new ≡ act (list_ops (ops g.now) (q - 1)) (weight_at q helpers.now p j) m.old }
+    ensures { T (all_valid (G.ops g.now) m.old) → m.new ≡ act (list_ops (G.ops g.now) (q - 1)) (weight_at q helpers.now p j) m.old }
 {
     for i in (0..helpers.len()).rev() {
         let k = helpers[i] as usize;

@@ -55,7 +55,7 @@ fn check_tuple(scheme: Scheme, out: usize, helpers: &[u32]) -> Result<(), Cabine
 // Adds `from` to `to`, or takes it from `to`.
 fn change_into<G: Group>(group: &G, change: Change, to: &mut [G::Element], from: &[G::Element])
     requires { length from.now ≡ length to.old }
-    ensures { T (all_valid (ops group.now) to.old) → T (all_valid (ops group.now) from.now) → to.new ≡ changed (ops group.now) change to.old from.now }
+    ensures { T (all_valid (G.ops group.now) to.old) → T (all_valid (G.ops group.now) from.now) → to.new ≡ changed (G.ops group.now) change to.old from.now }
 {
     match change {
         Change::Add => add_into(group, to, from),
@@ -75,7 +75,7 @@ fn change_row<G: Group>(
 )
     requires tuple { length tuple.now ≡ width }
     requires within { h * width + width ≤ length shares.old }
-    ensures { T (all_valid (ops group.now) shares.old) → T (all_valid (ops group.now) tuple.now) → shares.new ≡ put_row width h (changed (ops group.now) change (row_at width h shares.old) tuple.now) shares.old }
+    ensures { T (all_valid (G.ops group.now) shares.old) → T (all_valid (G.ops group.now) tuple.now) → shares.new ≡ put_row width h (changed (G.ops group.now) change (row_at width h shares.old) tuple.now) shares.old }
 {
     let start = h * width;
     let row = &mut shares[start..start + width];
@@ -97,7 +97,7 @@ fn deal_row<G: Group>(
     requires full { length shares.old ≡ scheme.n * (scheme.q - 1) }
     requires room { length scratch.old ≡ 3 * (scheme.q - 1) }
     requires count { length coefficients.now ≡ (scheme.t - 1) * (scheme.q - 1) }
-    ensures { T (all_valid (ops group.now) shares.old) → T ((ops group.now).valid key) → T (all_valid (ops group.now) coefficients.now) → shares.new ≡ put_row (scheme.q - 1) h (changed (ops group.now) change (row_at (scheme.q - 1) h shares.old) (dealt (ops group.now) (scheme.q - 1) (h + 1) key (scheme.t - 1) coefficients.now)) shares.old }
+    ensures { T (all_valid (G.ops group.now) shares.old) → T ((G.ops group.now).valid key) → T (all_valid (G.ops group.now) coefficients.now) → shares.new ≡ put_row (scheme.q - 1) h (changed (G.ops group.now) change (row_at (scheme.q - 1) h shares.old) (dealt (G.ops group.now) (scheme.q - 1) (h + 1) key (scheme.t - 1) coefficients.now)) shares.old }
 {
     let width = scheme.q - 1;
     let count = scheme.t - 1;
@@ -124,7 +124,7 @@ pub fn deal_to<G: Group>(
     scratch: &mut [G::Element],
 ) -> Result<(), CabinetFault>
     ensures verdict { result ≡ verdict (first (length_rows scheme (length shares.old) (length scratch.old) ++ dealing_rows scheme (length coefficients.now) holder)) }
-    ensures share { MatchResult result (λ _. T (all_valid (ops group.now) shares.old) → T ((ops group.now).valid key) → T (all_valid (ops group.now) coefficients.now) → shares.new ≡ put_row (scheme.q - 1) (holder - 1) (changed (ops group.now) change (row_at (scheme.q - 1) (holder - 1) shares.old) (dealt (ops group.now) (scheme.q - 1) holder key (scheme.t - 1) coefficients.now)) shares.old) (λ _. (shares.new ≡ shares.old) × (scratch.new ≡ scratch.old)) }
+    ensures share { MatchResult result (λ _. T (all_valid (G.ops group.now) shares.old) → T ((G.ops group.now).valid key) → T (all_valid (G.ops group.now) coefficients.now) → shares.new ≡ put_row (scheme.q - 1) (holder - 1) (changed (G.ops group.now) change (row_at (scheme.q - 1) (holder - 1) shares.old) (dealt (G.ops group.now) (scheme.q - 1) holder key (scheme.t - 1) coefficients.now)) shares.old) (λ _. (shares.new ≡ shares.old) × (scratch.new ≡ scratch.old)) }
 {
     check_lengths(scheme, shares.len(), scratch.len())?;
     check_dealing(scheme, coefficients.len(), holder)?;
@@ -147,7 +147,7 @@ fn write_tuple<G: Group>(
     requires full { length shares.now ≡ scheme.n * (scheme.q - 1) }
     requires tuple { length out.old ≡ scheme.q - 1 }
     requires room { length scratch.old ≡ 3 * (scheme.q - 1) }
-    ensures { T (all_valid (ops group.now) shares.now) → out.new ≡ tuple_at (ops group.now) scheme.q helpers.now point shares.now }
+    ensures { T (all_valid (G.ops group.now) shares.now) → out.new ≡ tuple_at (G.ops group.now) scheme.q helpers.now point shares.now }
 {
     let width = scheme.q - 1;
     let (term, rest) = scratch.split_at_mut(width);
@@ -172,8 +172,8 @@ pub fn tuple_at<G: Group>(
     scratch: &mut [G::Element],
 ) -> Result<(), CabinetFault>
     ensures verdict { result ≡ verdict (first (length_rows scheme (length shares.now) (length scratch.old) ++ tuple_rows scheme (length out.old) helpers.now)) }
-    ensures tuple { MatchResult result (λ _. T (all_valid (ops group.now) shares.now) → out.new ≡ tuple_at (ops group.now) scheme.q helpers.now point shares.now) (λ _. (out.new ≡ out.old) × (scratch.new ≡ scratch.old)) }
-    ensures interpolates { OnOk result (T (all_valid (ops group.now) shares.now) → Interpolated (ops group.now) scheme helpers.now point shares.now out.new) }
+    ensures tuple { MatchResult result (λ _. T (all_valid (G.ops group.now) shares.now) → out.new ≡ tuple_at (G.ops group.now) scheme.q helpers.now point shares.now) (λ _. (out.new ≡ out.old) × (scratch.new ≡ scratch.old)) }
+    ensures interpolates { OnOk result (T (all_valid (G.ops group.now) shares.now) → Interpolated (G.ops group.now) scheme helpers.now point shares.now out.new) }
 {
     check_lengths(scheme, shares.len(), scratch.len())?;
     check_tuple(scheme, out.len(), helpers)?;

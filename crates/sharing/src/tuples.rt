@@ -6,7 +6,7 @@ use groups::group::Group;
 
 // Writes zero everywhere.
 pub fn fill_zero<G: Group>(g: &G, to: &mut [G::Element])
-    ensures { to.new ≡ tuple_zero (ops g.now) (length to.old) }
+    ensures { to.new ≡ tuple_zero (G.ops g.now) (length to.old) }
 {
     let zero = g.zero();
     for i in 0..to.len() {
@@ -16,7 +16,7 @@ pub fn fill_zero<G: Group>(g: &G, to: &mut [G::Element])
 
 // The place of the first element that is not valid.
 pub fn first_invalid<G: Group>(g: &G, xs: &[G::Element]) -> Option<usize>
-    ensures { result ≡ first_place (invalid_at (ops g.now) xs.now) 0 (length xs.now) }
+    ensures { result ≡ first_place (invalid_at (G.ops g.now) xs.now) 0 (length xs.now) }
 {
     for i in 0..xs.len() {
         if !g.is_valid(xs[i]) {
@@ -29,7 +29,7 @@ pub fn first_invalid<G: Group>(g: &G, xs: &[G::Element]) -> Option<usize>
 // Adds `from` to `to`.
 pub(crate) fn add_into<G: Group>(g: &G, to: &mut [G::Element], from: &[G::Element])
     requires { length from.now ≡ length to.old }
-    ensures { T (all_valid (ops g.now) to.old) → T (all_valid (ops g.now) from.now) → to.new ≡ tuple_plus (ops g.now) to.old from.now }
+    ensures { T (all_valid (G.ops g.now) to.old) → T (all_valid (G.ops g.now) from.now) → to.new ≡ tuple_plus (G.ops g.now) to.old from.now }
 {
     for i in 0..to.len() {
         to[i] = g.sum(to[i], from[i]);
@@ -39,7 +39,7 @@ pub(crate) fn add_into<G: Group>(g: &G, to: &mut [G::Element], from: &[G::Elemen
 // Takes `from` from `to`.
 pub(crate) fn subtract_into<G: Group>(g: &G, to: &mut [G::Element], from: &[G::Element])
     requires { length from.now ≡ length to.old }
-    ensures { T (all_valid (ops g.now) to.old) → T (all_valid (ops g.now) from.now) → to.new ≡ tuple_less (ops g.now) to.old from.now }
+    ensures { T (all_valid (G.ops g.now) to.old) → T (all_valid (G.ops g.now) from.now) → to.new ≡ tuple_less (G.ops g.now) to.old from.now }
 {
     for i in 0..to.len() {
         to[i] = g.sum(to[i], g.negative(from[i]));
@@ -48,7 +48,7 @@ pub(crate) fn subtract_into<G: Group>(g: &G, to: &mut [G::Element], from: &[G::E
 
 // Turns each element into its negative.
 pub(crate) fn negate<G: Group>(g: &G, to: &mut [G::Element])
-    ensures { T (all_valid (ops g.now) to.old) → to.new ≡ tuple_minus (ops g.now) to.old }
+    ensures { T (all_valid (G.ops g.now) to.old) → to.new ≡ tuple_minus (G.ops g.now) to.old }
 {
     for i in 0..to.len() {
         to[i] = g.negative(to[i]);

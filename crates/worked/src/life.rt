@@ -21,7 +21,7 @@ pub fn lifetime<G: Group + Drop>(
     shares: &mut [G::Element],
     working: &mut [G::Element],
 ) -> Result<G::Element, CabinetFault>
-    ensures { length shares.old ≡ scheme.n * (scheme.q - 1) → IfOk result (λ k. k ≡ (ops group).plus ((ops group).plus (ops group).zero deposited) ((ops group).minus withdrawn)) }
+    ensures { length shares.old ≡ scheme.n * (scheme.q - 1) → IfOk result (λ k. k ≡ (G.ops group).plus ((G.ops group).plus (G.ops group).zero deposited) ((G.ops group).minus withdrawn)) }
 {
     let mut cabinet = Cabinet::make(group, scheme, 0, shares);
     cabinet.deposit(deposited, coefficients, shares, working)?;

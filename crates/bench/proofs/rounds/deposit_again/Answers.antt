@@ -21,28 +21,28 @@ loop-done-preserved g c =
           (ap ops same.0) same.1 len c.loop-done.invariant.1 c.deposit.ensures.step,
     )
 
-pub returns-in-err-deposit : goal.returns-in-err-deposit
-returns-in-err-deposit g c =
+pub returns-in_err-deposit : goal.returns-in_err-deposit
+returns-in_err-deposit g c =
     let C = c.args.cabinet.now in
     let D = c.loop-done.cabinet in
     let ops = g.G.Group.ops in
-    let f = c.in-err-deposit.field-0.0 in
+    let f = c.in_err-deposit.field-0.0 in
     let call = dealing (depositing c.args.key) c.args.coefficients.now in
     let st = state_of C c.args.shares.now in
     let same = c.loop-done.invariant.0 in
     let kept = c.deposit.ensures.same in
-    let p = err_from_is_err_and c.from-residual.result c.from-residual.ensures.1 in
+    let p = err_from_is_err_and c.from_residual.result c.from_residual.ensures.1 in
     let len : length c.loop-done.working ≡ length c.args.working.now = omega arith in
     record {
       same = (kept.0 ∙ same.0, kept.1 ∙ same.1, kept.2 ∙ same.2);
-      state = on_refusal c.from-residual.result _ _ f (p.1 ∙ ap Err p.2)
+      state = on_refusal c.from_residual.result _ _ f (p.1 ∙ ap Err p.2)
           (
           record {
             round = c.loop-done.done;
             within = c.loop-done-test.true;
             answer = told_after (ops C.group) (ops D.group) C.scheme D.scheme c.args.working.now c.loop-done.working call
                 (after (ops C.group) C.scheme c.args.working.now call c.loop-done.done st) (state_of D c.loop-done.shares) (refused f)
-                (ap ops same.0) same.1 len c.loop-done.invariant.1 (ap (λ o. o.answer) c.in-err-deposit.ensures.step);
+                (ap ops same.0) same.1 len c.loop-done.invariant.1 (ap (λ o. o.answer) c.in_err-deposit.ensures.step);
           }
           );
     }

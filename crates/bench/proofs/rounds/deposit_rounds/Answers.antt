@@ -6,21 +6,21 @@ use Rattle.bench.specs.Rounds.{no_cabinet, no_deposit}
 use Rattle.bench.proofs.Repeated.{begun, stopped, on_refusal, so}
 use Rattle.bench.proofs.rounds.deposit_rounds.Goals as goal
 
-pub returns-in-err-scheme : goal.returns-in-err-scheme
-returns-in-err-scheme g c =
-    let p = err_from_is_err_and c.from-residual.result c.from-residual.ensures.1 in
-    on_refusal c.from-residual.result _ _ c.in-err-scheme.field-0.0 (p.1 ∙ ap Err p.2) (no_cabinet c.in-err-scheme.ensures)
+pub returns-in_err-scheme : goal.returns-in_err-scheme
+returns-in_err-scheme g c =
+    let p = err_from_is_err_and c.from_residual.result c.from_residual.ensures.1 in
+    on_refusal c.from_residual.result _ _ c.in_err-scheme.field-0.0 (p.1 ∙ ap Err p.2) (no_cabinet c.in_err-scheme.ensures)
 
 pub returns : goal.returns
 returns g c =
     let ops = g.G.Group.ops in
     let G = ops c.args.group in
-    let S = c.in-ok-scheme.scheme in
+    let S = c.in_ok-scheme.scheme in
     let C = c.make-cabinet.result in
     let new = c.make-cabinet.ensures.cabinet in
-    let sized = c.in-ok-scheme.ensures in
+    let sized = c.in_ok-scheme.ensures in
     let call = dealing (depositing c.args.key) c.args.coefficients.now in
-    so c.deposit-again.result _ _ _ _
+    so c.deposit_again.result _ _ _ _
     (
     λ u e.
     record {
@@ -28,7 +28,7 @@ returns g c =
       threshold = sized.0;
       holders = sized.1;
       left = ap (λ s. s.shares) (begun G (ops C.group) S C.scheme c.args.working.now call c.args.rounds
-          (length c.args.shares.now) C.ledger c.make-cabinet.new.shares (state_of c.deposit-again.new.cabinet c.deposit-again.new.shares)
+          (length c.args.shares.now) C.ledger c.make-cabinet.new.shares (state_of c.deposit_again.new.cabinet c.deposit_again.new.shares)
           (ap ops new.0) new.1 new.3 c.make-cabinet.ensures.shares sized.2 e);
     }
     )
@@ -37,4 +37,4 @@ returns g c =
     (length c.args.shares.now) C.ledger c.make-cabinet.new.shares f
     (ap ops new.0) new.1 new.3 c.make-cabinet.ensures.shares sized.2 z)
     )
-    c.deposit-again.ensures.state
+    c.deposit_again.ensures.state

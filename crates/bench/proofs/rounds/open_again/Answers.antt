@@ -5,14 +5,14 @@ use Rattle.custody.specs.States.{state_of}
 use Rattle.bench.proofs.Repeated.{told_after}
 use Rattle.bench.proofs.rounds.open_again.Goals as goal
 
-pub returns-in-err-open : goal.returns-in-err-open
-returns-in-err-open g c =
+pub returns-in_err-open : goal.returns-in_err-open
+returns-in_err-open g c =
     let C = c.args.cabinet.now in
     let G = g.G.Group.ops C.group in
     let st = state_of C c.args.shares.now in
-    let f = c.in-err-open.field-0.0 in
-    let p = err_from_is_err_and c.from-residual-in-err-open.result c.from-residual-in-err-open.ensures.1 in
+    let f = c.in_err-open.field-0.0 in
+    let p = err_from_is_err_and c.from_residual-in_err-open.result c.from_residual-in_err-open.ensures.1 in
     let len : length c.loop-done.working ≡ length c.args.working.now = omega arith in
     told_after G G C.scheme C.scheme c.args.working.now c.loop-done.working (opening c.args.helpers.now) st st (refused f) refl refl len refl
-    (ap (λ o. o.answer) c.in-err-open.ensures)
+    (ap (λ o. o.answer) c.in_err-open.ensures)
     ∙ sym (ap (answered key_is) (p.1 ∙ ap Err p.2))

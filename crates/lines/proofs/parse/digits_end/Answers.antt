@@ -4,12 +4,12 @@ use Rattle.lines.proofs.parse.digits_end.Goals as goal
 
 pub loop-end-preserved : goal.loop-end-preserved
 loop-end-preserved c =
-    let more = digit_more c.args.line.now c.loop-end.end (omega arith) (sym c.if-is-ascii-digit.ensures.value) in
+    let more = digit_more c.args.line.now c.loop-end.end (omega arith) (sym c.if-is_ascii_digit.ensures.value) in
     (omega arith, omega arith)
 
-pub returns-else-is-ascii-digit : goal.returns-else-is-ascii-digit
-returns-else-is-ascii-digit c =
-    let none = digit_none c.args.line.now c.loop-end.end (omega arith) (sym c.if-is-ascii-digit.ensures.value) in
+pub returns-else-is_ascii_digit : goal.returns-else-is_ascii_digit
+returns-else-is_ascii_digit c =
+    let none = digit_none c.args.line.now c.loop-end.end (omega arith) (sym c.if-is_ascii_digit.ensures.value) in
     record { value = omega arith; bound = omega arith }
 
 pub returns-after-loop-end : goal.returns-after-loop-end

@@ -27,5 +27,5 @@ returns c =
     let ds = c.args.digits.now in
     let all : c.loop-byte.value ≡ value_after 0 ds =
     sym (value_all c.loop-byte.value ds c.loop-byte.byte-index (omega arith)) ∙ c.loop-byte.invariant.1 in
-    let some : 0 < length ds = omega (arith, false-eqb (length ds) 0 c.if-is-empty.ensures) in
+    let some : 0 < length ds = omega (arith, false-eqb (length ds) 0 c.if-is_empty.ensures) in
     ap Some all ∙ sym (read_all ds some (omega arith) (omega arith))

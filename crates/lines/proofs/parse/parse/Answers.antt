@@ -7,8 +7,8 @@ use Rattle.lines.proofs.parse.parse.Goals as goal
 pub returns-then-line-gt-LONGEST : goal.returns-then-line-gt-LONGEST
 returns-then-line-gt-LONGEST c = record { memory = search rules; back = reads_back; tells = search rules }
 
-pub returns-in-default : goal.returns-in-default
-returns-in-default c = record { memory = search rules; back = reads_back; tells = search rules }
+pub returns-in_default : goal.returns-in_default
+returns-in_default c = record { memory = search rules; back = reads_back; tells = search rules }
 
 pub returns-in-Err : goal.returns-in-Err
 returns-in-Err c = record { memory = search rules; back = reads_back; tells = search rules }
@@ -29,10 +29,10 @@ returns c =
       tells = complete c.args.line.now c.in-Some.letter (vec_items c.loop-start.fields) c.loop-start.start (omega arith) c.in-Some.ensures c.loop-start.invariant.1 (omega arith) (omega arith);
     }
 
-pub returns-in-err-push : goal.returns-in-err-push
-returns-in-err-push c =
-    let exit = err_from_is_err_and c.from-residual.result c.from-residual.ensures.1 in
-    let told = c.in-err-push.ensures in
+pub returns-in_err-push : goal.returns-in_err-push
+returns-in_err-push c =
+    let exit = err_from_is_err_and c.from_residual.result c.from_residual.ensures.1 in
+    let told = c.in_err-push.ensures in
     let full : vec_capacity c.args.fields.now ≤ vec_len c.push.new.self =
     omega (arith, told.len, told.full) in
     record { memory = rw exit.1 full; back = reads_back; tells = rw exit.1 tt }

@@ -6,4 +6,4 @@ use Rattle.sharing.proofs.dealing.interpolate.Given as goal
 abbrev pub invariant-loop-i : goal.invariant-loop-i
 invariant-loop-i g l =
     let G = g.G.Group.ops l.g in
-    T (all_valid G l.shares) → (l.res ≡ sum_from G l.q l.helpers l.p l.shares l.i) × T (all_valid G l.res)
+    T (all_valid G l.shares) → (l.out ≡ sum_from G l.q l.helpers l.p l.shares l.i) × T (all_valid G l.out)

@@ -1,4 +1,4 @@
-use Rattle.std.proofs.Common.{◌≡◌, true, false, ltb, length, get_or}
+use Rattle.std.proofs.Common.{◌≡◌, true, ltb, length, get_or}
 use Rattle.std.proofs.lemmas.Bool.{lt-ltb, le-ltb, or_left, or_right, or_from}
 use Rattle.sharing.specs.Helpers.{unknown_at}
 use Rattle.algebra.proofs.Places.{place_found, place_next}

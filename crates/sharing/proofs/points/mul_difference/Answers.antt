@@ -7,13 +7,13 @@ use Rattle.sharing.proofs.points.mul_difference.Goals as goal
 
 pub returns-then-j-k : goal.returns-then-j-k
 returns-then-j-k g c p =
-    c.mul-term.ensures p
+    c.mul_term.ensures p
     ∙ ap (λ s. act (list_ops (g.G.Group.ops c.args.g.now) (length c.args.m.now)) s c.args.m.now)
-    (difference_one c.args.k c.args.j c.min.result c.abs-diff.result c.min.ensures c.abs-diff.ensures c.if-j-k.true)
+    (difference_one c.args.k c.args.j c.min.result c.abs_diff.result c.min.ensures c.abs_diff.ensures c.if-j-k.true)
 
 pub returns : goal.returns
 returns g c p =
     negated (g.G.Group.ops c.args.g.now) (g.met.G.Group.laws c.args.g.now) (length c.args.m.now) c.args.m.now refl p
-    (times (power c.min.result) (geometric 1 c.abs-diff.result)) c.mul-term.new.m c.negate.new.to (c.mul-term.ensures p) c.negate.ensures
+    (times (power c.min.result) (geometric 1 c.abs_diff.result)) c.mul_term.new.m c.negate.new.to (c.mul_term.ensures p) c.negate.ensures
     ∙ ap (λ s. act (list_ops (g.G.Group.ops c.args.g.now) (length c.args.m.now)) s c.args.m.now)
-    (difference_other c.args.k c.args.j c.min.result c.abs-diff.result c.min.ensures c.abs-diff.ensures c.if-j-k.false)
+    (difference_other c.args.k c.args.j c.min.result c.abs_diff.result c.min.ensures c.abs_diff.ensures c.if-j-k.false)

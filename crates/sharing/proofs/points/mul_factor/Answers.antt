@@ -12,4 +12,4 @@ returns-then-k-j g c v =
 pub returns : goal.returns
 returns g c v =
     factored (g.G.Group.ops c.args.g.now) (g.met.G.Group.laws c.args.g.now) c.args.q c.args.p c.args.j c.args.k
-    c.args.m.now c.mul-inverse.new.m c.mul-difference.new.m c.requires.two c.requires.m v c.if-k-j.false (c.mul-inverse.ensures v) c.mul-difference.ensures
+    c.args.m.now c.mul_inverse.new.m c.mul_difference.new.m c.requires.two c.requires.m v c.if-k-j.false (c.mul_inverse.ensures v) c.mul_difference.ensures

@@ -4,9 +4,9 @@ use Rattle.sharing.proofs.Acting.{geometric_step}
 use Rattle.sharing.proofs.points.mul_geometric.Goals as goal
 
 pub loop-done-init : goal.loop-done-init
-loop-done-init g c p = c.fill-zero.ensures ∙ ap (tuple_zero (g.G.Group.ops c.args.g.now)) c.requires.out
+loop-done-init g c p = c.fill_zero.ensures ∙ ap (tuple_zero (g.G.Group.ops c.args.g.now)) c.requires.out
 
 pub loop-done-preserved : goal.loop-done-preserved
 loop-done-preserved g c p =
     geometric_step (g.G.Group.ops c.args.g.now) (g.met.G.Group.laws c.args.g.now) (length c.args.m.now) c.args.m.now refl p
-    c.args.d c.loop-done.done c.loop-done.out c.mul-power.new.m c.add-into.new.to (c.loop-done.invariant p) c.mul-power.ensures c.add-into.ensures
+    c.args.d c.loop-done.done c.loop-done.out c.mul_power.new.m c.add_into.new.to (c.loop-done.invariant p) c.mul_power.ensures c.add_into.ensures

@@ -7,16 +7,16 @@ use Rattle.sharing.proofs.points.mul_inverse.Goals as goal
 
 pub returns-then-j-k : goal.returns-then-j-k
 returns-then-j-k g c p =
-    c.mul-term.ensures p
+    c.mul_term.ensures p
     ∙ ap (λ s. act (list_ops (g.G.Group.ops c.args.g.now) (length c.args.m.now)) s c.args.m.now)
-    (inverse_one c.args.k c.args.j c.min.result c.abs-diff-d.result c.min.ensures c.abs-diff-d.ensures
-    c.args.q c.inverse-number-e.result c.inverse-number-e.ensures c.if-j-k.true)
+    (inverse_one c.args.k c.args.j c.min.result c.abs_diff-d.result c.min.ensures c.abs_diff-d.ensures
+    c.args.q c.inverse_number-e.result c.inverse_number-e.ensures c.if-j-k.true)
 
 pub returns : goal.returns
 returns g c p =
     negated (g.G.Group.ops c.args.g.now) (g.met.G.Group.laws c.args.g.now) (length c.args.m.now) c.args.m.now refl p
-    (times (power (c.args.q - c.min.result)) (geometric c.abs-diff-d.result c.inverse-number-e.result)) c.mul-term.new.m c.negate.new.to
-    (c.mul-term.ensures p) c.negate.ensures
+    (times (power (c.args.q - c.min.result)) (geometric c.abs_diff-d.result c.inverse_number-e.result)) c.mul_term.new.m c.negate.new.to
+    (c.mul_term.ensures p) c.negate.ensures
     ∙ ap (λ s. act (list_ops (g.G.Group.ops c.args.g.now) (length c.args.m.now)) s c.args.m.now)
-    (inverse_other c.args.k c.args.j c.min.result c.abs-diff-d.result c.min.ensures c.abs-diff-d.ensures
-    c.args.q c.inverse-number-e.result c.inverse-number-e.ensures c.if-j-k.false)
+    (inverse_other c.args.k c.args.j c.min.result c.abs_diff-d.result c.min.ensures c.abs_diff-d.ensures
+    c.args.q c.inverse_number-e.result c.inverse_number-e.ensures c.if-j-k.false)

@@ -10,5 +10,5 @@ loop-i-preserved g c p =
 
 pub returns : goal.returns
 returns g c p =
-    turn_end (g.G.Group.ops c.args.g.now) (g.met.G.Group.laws c.args.g.now) c.args.m.now c.args.k c.loop-i.i c.loop-i.tmp c.copy-from-slice.new.self
-    (omega arith) (omega arith) c.copy-from-slice.ensures.after (c.loop-i.invariant p)
+    turn_end (g.G.Group.ops c.args.g.now) (g.met.G.Group.laws c.args.g.now) c.args.m.now c.args.k c.loop-i.i c.loop-i.tmp c.copy_from_slice.new.self
+    (omega arith) (omega arith) c.copy_from_slice.ensures.after (c.loop-i.invariant p)

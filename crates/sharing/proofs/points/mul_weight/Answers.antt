@@ -9,7 +9,7 @@ loop-i-init g c v =
 pub loop-i-preserved : goal.loop-i-preserved
 loop-i-preserved g c v =
     weight_step (g.G.Group.ops c.args.g.now) (g.met.G.Group.laws c.args.g.now) c.args.q c.args.p c.args.j c.args.helpers.now (c.args.q - 1) c.args.m.now
-    c.loop-i.i c.loop-i.m c.mul-factor.new.m c.requires.m v (omega arith) (omega arith) (c.loop-i.invariant v) c.mul-factor.ensures
+    c.loop-i.i c.loop-i.m c.mul_factor.new.m c.requires.m v (omega arith) (omega arith) (c.loop-i.invariant v) c.mul_factor.ensures
 
 pub returns : goal.returns
 returns g c v =

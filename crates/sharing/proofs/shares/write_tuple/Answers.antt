@@ -1,4 +1,4 @@
-use Rattle.std.proofs.Common.{◌≡◌, ◌-◌, ◌*◌, ◌<◌, ◌≤◌, length, get_or, le_refl, arith, rules}
+use Rattle.std.proofs.Common.{◌-◌, get_or, le_refl, arith}
 use Rattle.std.proofs.lemmas.Nat.{mul-le}
 use Rattle.sharing.proofs.shares.write_tuple.Goals as goal
 
@@ -12,7 +12,7 @@ interpolate-requires g c =
       low = λ i h. (c.requires.known i h).0;
       below = λ i h. omega (arith, (c.requires.known i h).1, s.above);
       held = λ i h. omega (arith, mul-le (get_or c.args.helpers.now i 0) w s.n w (c.requires.known i h).1 (le_refl w));
-      result = omega arith;
+      out = omega arith;
       term = omega arith;
       product = omega arith;
       tmp = omega arith;

@@ -8,7 +8,7 @@ pub returns : goal.returns
 returns g c =
     let s = c.args.self.now in
     called (λ h. g.G.Group.ops h) s.cabinet (vec_items s.shares) (vec_items s.working) (dealing (depositing c.args.key) c.args.coefficients.now)
-    c.deposit.new.self c.as-mut-slice-shares.result.now c.as-mut-slice-working.result.now c.deposit.new.shares c.deposit.new.working
+    c.deposit.new.self c.as_mut_slice-shares.result.now c.as_mut_slice-working.result.now c.deposit.new.shares c.deposit.new.working
     (vec_items (with_items s.shares c.deposit.new.shares)) (vec_items (with_items s.working c.deposit.new.working)) (answered epoch_is c.deposit.result)
-    c.as-mut-slice-shares.ensures.value c.as-mut-slice-working.ensures.value c.deposit.ensures.step c.deposit.ensures.same
+    c.as_mut_slice-shares.ensures.value c.as_mut_slice-working.ensures.value c.deposit.ensures.step c.deposit.ensures.same
     (refilled_items s.shares c.deposit.new.shares (omega arith)) (refilled_items s.working c.deposit.new.working (omega arith))

@@ -5,7 +5,7 @@ use Rattle.console.proofs.seat.Seat.make.Goals as goal
 
 pub returns : goal.returns
 returns g c =
-    let v = c.in-ok-shares.shares in
+    let v = c.in_ok-shares.shares in
     new_seat (λ h. g.G.Group.ops h) c.args.group c.args.scheme c.make-cabinet.result (vec_items (with_items v c.make-cabinet.new.shares)) c.make-cabinet.new.shares
-    (vec_items c.in-ok-working.working) _ c.make-cabinet.ensures.cabinet (refilled_items v c.make-cabinet.new.shares (omega arith)) c.make-cabinet.ensures.shares
-    (omega (arith, c.in-ok-shares.ensures.len))
+    (vec_items c.in_ok-working.working) _ c.make-cabinet.ensures.cabinet (refilled_items v c.make-cabinet.new.shares (omega arith)) c.make-cabinet.ensures.shares
+    (omega (arith, c.in_ok-shares.ensures.len))

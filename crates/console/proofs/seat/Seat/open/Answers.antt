@@ -8,7 +8,7 @@ pub returns : goal.returns
 returns g c =
     let s = c.args.self.now in
     called (λ h. g.G.Group.ops h) s.cabinet (vec_items s.shares) (vec_items s.working) (opening c.args.helpers.now)
-    s.cabinet c.as-slice.result.now c.as-mut-slice-working.result.now c.as-slice.result.now c.open.new.working
+    s.cabinet c.as_slice.result.now c.as_mut_slice-working.result.now c.as_slice.result.now c.open.new.working
     (vec_items s.shares) (vec_items (with_items s.working c.open.new.working)) (answered key_is c.open.result)
-    c.as-slice.ensures.value c.as-mut-slice-working.ensures.value c.open.ensures (refl, refl, refl)
-    (sym c.as-slice.ensures.value) (refilled_items s.working c.open.new.working (omega arith))
+    c.as_slice.ensures.value c.as_mut_slice-working.ensures.value c.open.ensures (refl, refl, refl)
+    (sym c.as_slice.ensures.value) (refilled_items s.working c.open.new.working (omega arith))

@@ -8,7 +8,7 @@ pub returns : goal.returns
 returns g c =
     let s = c.args.self.now in
     called (λ h. g.G.Group.ops h) s.cabinet (vec_items s.shares) (vec_items s.working) (repairing c.args.holder c.args.helpers.now)
-    c.repair.new.self c.as-mut-slice-shares.result.now c.as-mut-slice-working.result.now c.repair.new.shares c.repair.new.working
+    c.repair.new.self c.as_mut_slice-shares.result.now c.as_mut_slice-working.result.now c.repair.new.shares c.repair.new.working
     (vec_items (with_items s.shares c.repair.new.shares)) (vec_items (with_items s.working c.repair.new.working)) (answered holder_is c.repair.result)
-    c.as-mut-slice-shares.ensures.value c.as-mut-slice-working.ensures.value c.repair.ensures.step c.repair.ensures.same
+    c.as_mut_slice-shares.ensures.value c.as_mut_slice-working.ensures.value c.repair.ensures.step c.repair.ensures.same
     (refilled_items s.shares c.repair.new.shares (omega arith)) (refilled_items s.working c.repair.new.working (omega arith))

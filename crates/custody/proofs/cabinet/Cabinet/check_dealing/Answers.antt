@@ -5,18 +5,18 @@ use Rattle.history.specs.Rules.{memory_rows}
 use Rattle.custody.specs.Dealings.{keyed_rows}
 use Rattle.custody.proofs.cabinet.Cabinet.check_dealing.Goals as goal
 
-pub returns-in-err-check-memory : goal.returns-in-err-check-memory
-returns-in-err-check-memory g c =
+pub returns-in_err-check_memory : goal.returns-in_err-check_memory
+returns-in_err-check_memory g c =
     let G = g.G.Group.ops c.args.self.now.group in
     let s = c.args.self.now.scheme in
-    let p = err_from_is_err_and c.from-residual.result c.from-residual.ensures.1 in
+    let p = err_from_is_err_and c.from_residual.result c.from_residual.ensures.1 in
     p.1 ∙ ap Err p.2
     ∙ then_refused (memory_rows G s c.args.shares.now c.args.working) (keyed_rows G s c.args.self.now.ledger.epoch c.args.key c.args.coefficients.now)
-    c.in-err-check-memory.field-0.0 c.in-err-check-memory.ensures
+    c.in_err-check_memory.field-0.0 c.in_err-check_memory.ensures
 
 pub returns : goal.returns
 returns g c =
     let G = g.G.Group.ops c.args.self.now.group in
     let s = c.args.self.now.scheme in
     then_checked (memory_rows G s c.args.shares.now c.args.working) (keyed_rows G s c.args.self.now.ledger.epoch c.args.key c.args.coefficients.now)
-    c.check-deal.result c.in-ok-check-memory.ensures c.check-deal.ensures
+    c.check_deal.result c.in_ok-check_memory.ensures c.check_deal.ensures

@@ -8,8 +8,8 @@ loop-h-preserved g c p q r =
     let l : c.loop-h.h < s.n = omega arith in
     let full : length c.loop-h.shares ≡ s.n * (s.q - 1) = omega arith in
     deal_step (g.G.Group.ops c.args.self.now.group) (g.met.G.Group.laws c.args.self.now.group) s c.args.change c.args.self.now.ledger.holders c.args.key c.args.coefficients.now
-    c.args.shares.now c.loop-h.shares c.deal-present.new.shares c.loop-h.h l full c.requires.count
-    c.in-ok-deal-present.ensures q r (c.loop-h.invariant p q r)
+    c.args.shares.now c.loop-h.shares c.deal_present.new.shares c.loop-h.h l full c.requires.count
+    c.in_ok-deal_present.ensures q r (c.loop-h.invariant p q r)
 
 pub returns : goal.returns
 returns g c p q r =

@@ -9,21 +9,21 @@ use Rattle.custody.specs.States.{state_of}
 use Rattle.custody.proofs.Rewritten.{row_within}
 use Rattle.custody.proofs.cabinet.Cabinet.revoke.Goals as goal
 
-pub returns-in-err-check-revoking : goal.returns-in-err-check-revoking
-returns-in-err-check-revoking g c =
+pub returns-in_err-check_revoking : goal.returns-in_err-check_revoking
+returns-in_err-check_revoking g c =
     let C = c.args.self.now in
-    let p = err_from_is_err_and c.from-residual.result c.from-residual.ensures.1 in
+    let p = err_from_is_err_and c.from_residual.result c.from_residual.ensures.1 in
     record {
       step = refused_step (g.G.Group.ops C.group) C.scheme holder_is (state_of C c.args.shares.now) [] (revoking c.args.holder)
-          c.from-residual.result c.in-err-check-revoking.field-0.0 (p.1 ∙ ap Err p.2) c.in-err-check-revoking.ensures;
+          c.from_residual.result c.in_err-check_revoking.field-0.0 (p.1 ∙ ap Err p.2) c.in_err-check_revoking.ensures;
       same = (refl, refl, refl);
     }
 
-pub clear-row-requires : goal.clear-row-requires
-clear-row-requires g c =
+pub clear_row-requires : goal.clear_row-requires
+clear_row-requires g c =
     let C = c.args.self.now in
     let s = C.scheme in
-    let fine = revoking_fine (g.G.Group.ops C.group) (g.met.G.Group.laws C.group) s (state_of C c.args.shares.now) [] c.args.holder c.in-ok-check-revoking.ensures in
+    let fine = revoking_fine (g.G.Group.ops C.group) (g.met.G.Group.laws C.group) s (state_of C c.args.shares.now) [] c.args.holder c.in_ok-check_revoking.ensures in
     row_within c.args.holder s.n (s.q - 1) c.width.result _ fine.1.low fine.1.high c.width.ensures fine.0.full
 
 pub returns : goal.returns
@@ -32,6 +32,6 @@ returns g c =
     let cleared = λ (w : ℕ). put_row w (c.args.holder - 1) (tuple_zero (g.G.Group.ops C.group) w) c.args.shares.now in
     record {
       step = revoked (g.G.Group.ops C.group) (g.met.G.Group.laws C.group) C.scheme (state_of C c.args.shares.now) [] c.args.holder
-          c.clear-row.new.shares c.mark.new.self c.in-ok-check-revoking.ensures (c.clear-row.ensures ∙ ap cleared c.width.ensures) c.mark.ensures.known;
+          c.clear_row.new.shares c.mark.new.self c.in_ok-check_revoking.ensures (c.clear_row.ensures ∙ ap cleared c.width.ensures) c.mark.ensures.known;
       same = (refl, refl, refl);
     }

@@ -7,4 +7,4 @@ use Rattle.groups.proofs.blocks.BlocksEncodedGroup.read.Goals as goal
 pub returns-in-Ok : goal.returns-in-Ok
 returns-in-Ok c =
     let whole = c.in-Ok.ensures.1 in
-    (subst (λ (ys : List ℕ). T (ok bytes 16 ys)) (sym whole.same) (array_ok c.args.bytes.now whole.long c.ok.bytes), sym whole.same)
+    (subst (λ (ys : List ℕ). T (ok bytes 16 ys)) (sym whole.same) (array_ok c.args.bytes.now whole.long c.type_inv.bytes), sym whole.same)

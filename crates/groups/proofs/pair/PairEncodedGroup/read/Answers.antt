@@ -16,8 +16,8 @@ returns-then-bytes-middle g c =
     let mid = c.width-middle.result in
     (refl, length_refused G H F E L K xs mid c.width-middle.ensures c.width.result c.width.ensures c.if-bytes-middle.true)
 
-pub returns-in-err-first : goal.returns-in-err-first
-returns-in-err-first g c =
+pub returns-in_err-first : goal.returns-in_err-first
+returns-in_err-first g c =
     let s = c.args.self.now in
     let G = g.A.Group.ops s.first in
     let H = g.B.Group.ops s.second in
@@ -27,12 +27,12 @@ returns-in-err-first g c =
     let K = g.met.B.EncodedGroup.encoded s.second in
     let xs = c.args.bytes.now in
     let mid = c.width-middle.result in
-    let told = c.in-err-first.ensures in
-    let p = err_from_is_err_and c.from-residual.result c.from-residual.ensures.1 in
+    let told = c.in_err-first.ensures in
+    let p = err_from_is_err_and c.from_residual.result c.from_residual.ensures.1 in
     rw p.1 (p.2 ∙ told.0, first_refused G H F E L K xs mid c.width-middle.ensures told.1)
 
-pub returns-in-err-second : goal.returns-in-err-second
-returns-in-err-second g c =
+pub returns-in_err-second : goal.returns-in_err-second
+returns-in_err-second g c =
     let s = c.args.self.now in
     let G = g.A.Group.ops s.first in
     let H = g.B.Group.ops s.second in
@@ -42,8 +42,8 @@ returns-in-err-second g c =
     let K = g.met.B.EncodedGroup.encoded s.second in
     let xs = c.args.bytes.now in
     let mid = c.width-middle.result in
-    let told = c.in-err-second.ensures in
-    let p = err_from_is_err_and c.from-residual-in-err-second.result c.from-residual-in-err-second.ensures.1 in
+    let told = c.in_err-second.ensures in
+    let p = err_from_is_err_and c.from_residual-in_err-second.result c.from_residual-in_err-second.ensures.1 in
     rw p.1 (p.2 ∙ told.0, second_refused G H F E L K xs mid c.width-middle.ensures told.1)
 
 pub returns : goal.returns
