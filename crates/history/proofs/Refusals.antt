@@ -1,5 +1,5 @@
 -- What is known where no row applies, and where one does.
-use Rattle.std.proofs.Common.{◌≡◌, ℕ, zero, suc, ◌+◌, ◌-◌, ◌*◌, ◌<◌, ◌≤◌, Bool, true, false, cond, not, ◌&&◌, ◌||◌, T, eqb, ltb, leb, List, [], ◌∷◌, ◌++◌, length, get_or, Some, None, Ok, Err, Option, Result, sym, refl, ap, ◌∙◌, subst, arith}
+use Rattle.std.proofs.Common.{◌≡◌, ℕ, ◌-◌, ◌*◌, ◌<◌, ◌≤◌, Bool, true, false, not, ◌||◌, T, ltb, leb, List, [], ◌∷◌, length, None, Ok, Err, Option, Result, sym, ap, ◌∙◌, arith}
 use Rattle.std.proofs.lemmas.Bool.{not-false, leb-false, ltb-false, or_parts}
 use Rattle.algebra.specs.Group.{GroupOps, GroupLaws}
 use Rattle.algebra.specs.Tuples.{all_valid, invalid_at}
@@ -8,13 +8,13 @@ use Rattle.algebra.proofs.Places.{all_from_nowhere}
 use Rattle.sharing.specs.declared.fault.CabinetFault.{CabinetFault}
 use Rattle.sharing.specs.declared.fault.CabinetFault.TheVariants.{MemoryLength, InvalidShare, EpochLimit, InvalidKey, CoefficientCount, InvalidCoefficient, UnknownHolder, WrongPresence, MissingHelper}
 use Rattle.sharing.specs.declared.scheme.Scheme.{Scheme}
-use Rattle.sharing.specs.Verdicts.{row, located, length_row, first, verdict}
+use Rattle.sharing.specs.Verdicts.{row, located, first, verdict}
 use Rattle.sharing.specs.Helpers.{helper_rows}
 use Rattle.sharing.proofs.Verdicts.{verdict_ok, verdict_err, first_none, both_none, row_none, length_none, located_none, everywhere}
 use Rattle.sharing.proofs.Choosing.{Chosen, chosen}
 use Rattle.history.specs.declared.ledger.Holder.{Holder}
 use Rattle.history.specs.Ledgers.{is_present}
-use Rattle.history.specs.Calls.{State, Deal, depositing, withdrawing, refreshing, Call, Answer, refused, Outcome, answered}
+use Rattle.history.specs.Calls.{State, Deal, depositing, withdrawing, refreshing, Call, Answer, Outcome, answered}
 use Rattle.history.specs.Rules.{differs, last_epoch, share_row, valid_row, memory_rows, key_rows, coefficient_rows, deal_rows, change_rows, list_rows, missing_at, fault}
 use Rattle.history.specs.Steps.{key_of, accepted, decided, step}
 

@@ -1,7 +1,6 @@
 -- The accepted calls, as steps.
-use Rattle.std.proofs.Common.{◌≡◌, ℕ, ◌+◌, ◌-◌, ◌<◌, ◌≤◌, Bool, true, false, not, T, List, [], ◌∷◌, ◌++◌, length, get_or, Ok, Result, sym, refl, ap, ◌∙◌, subst, ap₂, arith}
+use Rattle.std.proofs.Common.{◌≡◌, ℕ, ◌+◌, ◌-◌, ◌≤◌, Bool, true, false, not, T, List, ◌++◌, length, Ok, Result, sym, ap, ◌∙◌, subst, ap₂, arith}
 use lib.ListN.{length-replicate}
-use Rattle.std.specs.List.{AllByRecursion as All}
 use Rattle.algebra.specs.Group.{GroupOps, GroupLaws}
 use Rattle.algebra.specs.Tuples.{all_valid, tuple_zero}
 use Rattle.algebra.specs.Space.{ok_valid}
@@ -10,7 +9,7 @@ use Rattle.algebra.specs.Dealing.{tuple_at}
 use Rattle.algebra.proofs.Dealings.{tuple_at_ok}
 use Rattle.sharing.specs.declared.fault.CabinetFault.{CabinetFault}
 use Rattle.sharing.specs.declared.scheme.Scheme.{Scheme}
-use Rattle.sharing.specs.Verdicts.{first, verdict}
+use Rattle.sharing.specs.Verdicts.{verdict}
 use Rattle.sharing.proofs.Verdicts.{verdict_ok, first_none, both_none}
 use Rattle.sharing.proofs.Choosing.{all_places}
 use Rattle.history.specs.declared.ledger.Ledger.{Ledger}

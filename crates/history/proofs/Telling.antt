@@ -1,12 +1,12 @@
 -- What an opened tuple tells, coordinate by coordinate.
-use Rattle.std.proofs.Common.{◌≡◌, ℕ, ◌-◌, ◌<◌, ◌≤◌, Bool, not, T, List, length, get_or, Some, None, Option, sym, refl, ap, ◌∙◌, subst, ap₂, arith}
+use Rattle.std.proofs.Common.{◌≡◌, ℕ, ◌-◌, ◌<◌, ◌≤◌, Bool, not, T, List, length, get_or, Some, Option, sym, ap, ◌∙◌, subst, ap₂, arith}
 use Rattle.std.proofs.lemmas.List.{get_or_read}
 use Rattle.algebra.specs.Group.{GroupOps, GroupLaws}
 use Rattle.algebra.specs.Tuples.{all_valid, nonzero_at}
 use Rattle.algebra.specs.Valid.{valid_read}
 use Rattle.algebra.specs.Rows.{first_place}
 use Rattle.sharing.specs.declared.fault.CabinetFault.TheVariants.{Disagreement}
-use Rattle.history.specs.Calls.{Answer, key_is, refused}
+use Rattle.history.specs.Calls.{key_is, refused}
 use Rattle.history.specs.Steps.{told_by, told}
 
 module _ {C : Type 0} (G : GroupOps C) (L : GroupLaws G) (m : List C) where
