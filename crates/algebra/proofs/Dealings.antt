@@ -1,7 +1,7 @@
 -- What holds of tuples holds of the lists that the code computes on: values, what is dealt, and interpolation.
 use Rattle.std.proofs.Common.{◌≡◌, ℕ, zero, suc, ◌-◌, ◌*◌, ◌<◌, ◌≤◌, T, ltb, List, [], ◌∷◌, length, take, drop, sym, refl, ap, ◌∙◌, subst, ap₂, suc-mul, arith}
 use lib.ListN.{length-replicate}
-use Rattle.std.specs.List.{AllByRecursion as All}
+use Rattle.std.specs.List.{AllByRecursion}
 use Rattle.std.proofs.ByRecursion.{All-weaker}
 use Rattle.std.proofs.lemmas.List.{length-take-le, length-drop}
 use Rattle.std.proofs.lemmas.Bool.{cond_both, ltb-true, ltb-false}
@@ -50,39 +50,39 @@ module _ {C : Type 0} (G : GroupOps C) (L : GroupLaws G) (w : ℕ) where
   act_equal s t e m h = sym (act_list G L w s (m, h)) ∙ ap (λ (a : Tuple G w). a.0) (e (m, h)) ∙ act_list G L w t (m, h)
 
   -- lists as tuples
-  lifted : (rs : List (List C)) → All (λ r. T (ok G w r)) rs → List (Tuple G w)
+  lifted : (rs : List (List C)) → AllByRecursion (λ r. T (ok G w r)) rs → List (Tuple G w)
   lifted [] h = []
   lifted (r ∷ rs) h = (r, h.0) ∷ lifted rs h.1
 
-  length_lifted : (rs : List (List C)) (h : All (λ r. T (ok G w r)) rs) → length (lifted rs h) ≡ length rs
+  length_lifted : (rs : List (List C)) (h : AllByRecursion (λ r. T (ok G w r)) rs) → length (lifted rs h) ≡ length rs
   unfolding lifted
   length_lifted [] h = refl
   length_lifted (r ∷ rs) h = ap suc (length_lifted rs h.1)
 
-  value_list : (rs : List (List C)) (h : All (λ r. T (ok G w r)) rs) (z : Scalar) → (value (tuple_ops G L w) (lifted rs h) z).0 ≡ value (list_ops G w) rs z
+  value_list : (rs : List (List C)) (h : AllByRecursion (λ r. T (ok G w r)) rs) (z : Scalar) → (value (tuple_ops G L w) (lifted rs h) z).0 ≡ value (list_ops G w) rs z
   unfolding lifted
   value_list [] h z = refl
   value_list (r ∷ rs) h z = ap (tuple_plus G r) (act_list G L w z _ ∙ ap (act (list_ops G w) z) (value_list rs h.1 z))
 
-  terms_lifted : (rs : List (List C)) (h : All (λ r. T (ok G w r)) rs) (n : ℕ) (z : Scalar) → (terms (tuple_ops G L w) (lifted rs h) n z).0 ≡ terms (list_ops G w) rs n z
+  terms_lifted : (rs : List (List C)) (h : AllByRecursion (λ r. T (ok G w r)) rs) (n : ℕ) (z : Scalar) → (terms (tuple_ops G L w) (lifted rs h) n z).0 ≡ terms (list_ops G w) rs n z
   unfolding lifted
   terms_lifted [] h n z = refl
   terms_lifted (r ∷ rs) h n z = ap₂ (tuple_plus G) (act_list G L w (repeat z n) (r, h.0)) (terms_lifted rs h.1 (suc n) z)
 
-  total_list : (f : ℕ → Tuple G w) (g : ℕ → List C) (B : List ℕ) → All (λ j. (f j).0 ≡ g j) B → (total (tuple_ops G L w) f B).0 ≡ total (list_ops G w) g B
+  total_list : (f : ℕ → Tuple G w) (g : ℕ → List C) (B : List ℕ) → AllByRecursion (λ j. (f j).0 ≡ g j) B → (total (tuple_ops G L w) f B).0 ≡ total (list_ops G w) g B
   total_list f g [] h = refl
   total_list f g (j ∷ B) h = ap₂ (tuple_plus G) h.0 (total_list f g B h.1)
 
-  pub value_ok : (rs : List (List C)) → All (λ r. T (ok G w r)) rs → (z : Scalar) → T (ok G w (value (list_ops G w) rs z))
+  pub value_ok : (rs : List (List C)) → AllByRecursion (λ r. T (ok G w r)) rs → (z : Scalar) → T (ok G w (value (list_ops G w) rs z))
   value_ok rs h z = tuple_ok (value (tuple_ops G L w) (lifted rs h) z) _ (value_list rs h z)
 
-  pub terms_ok : (rs : List (List C)) → All (λ r. T (ok G w r)) rs → (n : ℕ) (z : Scalar) → T (ok G w (terms (list_ops G w) rs n z))
+  pub terms_ok : (rs : List (List C)) → AllByRecursion (λ r. T (ok G w r)) rs → (n : ℕ) (z : Scalar) → T (ok G w (terms (list_ops G w) rs n z))
   terms_ok rs h n z = tuple_ok (terms (tuple_ops G L w) (lifted rs h) n z) _ (terms_lifted rs h n z)
 
-  pub terms_list : (rs : List (List C)) → All (λ r. T (ok G w r)) rs → (z : Scalar) → terms (list_ops G w) rs 0 z ≡ value (list_ops G w) rs z
+  pub terms_list : (rs : List (List C)) → AllByRecursion (λ r. T (ok G w r)) rs → (z : Scalar) → terms (list_ops G w) rs 0 z ≡ value (list_ops G w) rs z
   terms_list rs h z = sym (terms_lifted rs h 0 z) ∙ ap (λ (a : Tuple G w). a.0) (terms_value (tuple_sums G L w) (lifted rs h) 0 z) ∙ value_list rs h z
 
-  pub rows_ok : (n : ℕ) (cs : List C) → n * w ≤ length cs → T (all_valid G cs) → All (λ r. T (ok G w r)) (rows w n cs)
+  pub rows_ok : (n : ℕ) (cs : List C) → n * w ≤ length cs → T (all_valid G cs) → AllByRecursion (λ r. T (ok G w r)) (rows w n cs)
   rows_ok zero cs l h = tt
   rows_ok (suc n) cs l h = (
     ok_of G w (take w cs) (length-take-le w cs (omega (arith, suc-mul n w))) (take_valid G w cs h),
@@ -95,7 +95,7 @@ module _ {C : Type 0} (G : GroupOps C) (L : GroupLaws G) (w : ℕ) where
       ok_of G w (embedded G w k) (ap suc (length-replicate (w - 1) G.zero) ∙ e) (cons_valid G k (tuple_zero G (w - 1)) h (zero_tuple_valid G L (w - 1)))
 
   -- the key and the coefficients
-  pub dealing_ok : (count : ℕ) (k : C) (cs : List C) → 0 < w → count * w ≤ length cs → T (G.valid k) → T (all_valid G cs) → All (λ r. T (ok G w r)) (embedded G w k ∷ rows w count cs)
+  pub dealing_ok : (count : ℕ) (k : C) (cs : List C) → 0 < w → count * w ≤ length cs → T (G.valid k) → T (all_valid G cs) → AllByRecursion (λ r. T (ok G w r)) (embedded G w k ∷ rows w count cs)
   dealing_ok count k cs some enough key valid = (embedded_ok k some key, rows_ok count cs enough valid)
 
   module _ (i count : ℕ) (k : C) (cs : List C) (some : 0 < w) (enough : count * w ≤ length cs) (key : T (G.valid k)) (valid : T (all_valid G cs)) where
@@ -116,7 +116,7 @@ module _ {C : Type 0} (G : GroupOps C) (L : GroupLaws G) (w : ℕ) where
       (length-take-le w (drop ((j - 1) * w) shares) (omega (arith, row_before j n w low high, length-drop ((j - 1) * w) shares)))
       (part_valid G w ((j - 1) * w) shares h)
 
-  total_ok : (f : ℕ → List C) (B : List ℕ) → All (λ j. T (ok G w (f j))) B → T (ok G w (total (list_ops G w) f B))
+  total_ok : (f : ℕ → List C) (B : List ℕ) → AllByRecursion (λ j. T (ok G w (f j))) B → T (ok G w (total (list_ops G w) f B))
   total_ok f [] h = zero_ok G L w
   total_ok f (j ∷ B) h = plus_ok G L w (f j) (total (list_ops G w) f B) h.0 (total_ok f B h.1)
 
@@ -127,18 +127,18 @@ module _ {C : Type 0} (G : GroupOps C) (L : GroupLaws G) (q : ℕ) (two : 2 ≤ 
   pub weight_ok : (B : List ℕ) (p j n : ℕ) (shares : List C) → 1 ≤ j → j ≤ n → length shares ≡ n * (q - 1) → T (all_valid G shares) → T (ok G (q - 1) (act (list_ops G (q - 1)) (weight_at q B p j) (row_at (q - 1) (j - 1) shares)))
   weight_ok B p j n shares low high e h = act_ok G L (q - 1) (weight_at q B p j) _ (row_ok G L (q - 1) j n shares low high e h)
 
-  pub tuple_at_ok : (B : List ℕ) (p n : ℕ) (shares : List C) → length shares ≡ n * (q - 1) → All (λ j. (1 ≤ j) × (j ≤ n)) B → T (all_valid G shares) → T (ok G (q - 1) (tuple_at G q B p shares))
+  pub tuple_at_ok : (B : List ℕ) (p n : ℕ) (shares : List C) → length shares ≡ n * (q - 1) → AllByRecursion (λ j. (1 ≤ j) × (j ≤ n)) B → T (all_valid G shares) → T (ok G (q - 1) (tuple_at G q B p shares))
   tuple_at_ok B p n shares e inside h =
       total_ok G L (q - 1) _ B (All-weaker (λ j. (1 ≤ j) × (j ≤ n)) _ (λ j t. weight_ok B p j n shares t.0 t.1 e h) B inside)
 
   -- as the tuples' polynomials, so those of lists
-  lists_interpolate : Inverts q (inverse_number q) → (B : List ℕ) → Distinct B → All (λ j. j < q) B → (rs : List (List C)) → All (λ r. T (ok G (q - 1) r)) rs → length rs ≤ length B → (p : ℕ) (f : ℕ → List C) → All (λ j. f j ≡ value (list_ops G (q - 1)) rs (point j)) B → total (list_ops G (q - 1)) (λ j. act (list_ops G (q - 1)) (weight_at q B p j) (f j)) B ≡ value (list_ops G (q - 1)) rs (point p)
+  lists_interpolate : Inverts q (inverse_number q) → (B : List ℕ) → Distinct B → AllByRecursion (λ j. j < q) B → (rs : List (List C)) → AllByRecursion (λ r. T (ok G (q - 1) r)) rs → length rs ≤ length B → (p : ℕ) (f : ℕ → List C) → AllByRecursion (λ j. f j ≡ value (list_ops G (q - 1)) rs (point j)) B → total (list_ops G (q - 1)) (λ j. act (list_ops G (q - 1)) (weight_at q B p j) (f j)) B ≡ value (list_ops G (q - 1)) rs (point p)
   lists_interpolate inverts B distinct below rs h short p f same =
       let w : ℕ = q - 1 in
       let O = list_ops G w in
       let cs : List (Tuple G w) = lifted G L w rs h in
       let shared : ℕ → Tuple G w = λ j. act (tuple_ops G L w) (weight_at q B p j) (value (tuple_ops G L w) cs (point j)) in
-      let parts : All (λ j. (shared j).0 ≡ act O (weight_at q B p j) (f j)) B =
+      let parts : AllByRecursion (λ j. (shared j).0 ≡ act O (weight_at q B p j) (f j)) B =
       All-weaker (λ j. f j ≡ value O rs (point j)) (λ j. (shared j).0 ≡ act O (weight_at q B p j) (f j))
       (λ j e. act_list G L w (weight_at q B p j) (value (tuple_ops G L w) cs (point j)) ∙ ap (act O (weight_at q B p j)) (value_list G L w rs h (point j) ∙ sym e)) B same in
       sym (total_list G L w shared (λ j. act O (weight_at q B p j) (f j)) B parts)

@@ -1,6 +1,6 @@
 -- The weighted sum of a polynomial's values is its value at any other place.
 use Rattle.std.proofs.Common.{◌≡◌, ℕ, suc, ◌≤◌, List, [], ◌∷◌, length, sym, refl, ap, ◌∙◌, ap₂, arith}
-use Rattle.std.specs.List.{AllByRecursion as All}
+use Rattle.std.specs.List.{AllByRecursion}
 use Rattle.std.proofs.ByRecursion.{All-weaker}
 use Rattle.std.proofs.lemmas.Bool.{cond-true, cond-false, eq-eqb, ne_eqb}
 use Rattle.algebra.specs.Module.{ModuleOps, ModuleLaws}
@@ -9,7 +9,7 @@ use Rattle.algebra.specs.Sharing.{value, total, join, less, factor, weight, basi
 use Rattle.algebra.proofs.Actions.{nil_add, interchange, redo, cancel, act_add, act_nil, act_neg, act_comm, ring}
 use Rattle.algebra.proofs.Polynomials.{value_join, length_join, value_grow, length_grow, tail_quotient, remainder, length_tail_quotient}
 
-pub all_both : {X : Type 0} (P Q : X → Type 0) (xs : List X) → All P xs → All Q xs → All (λ x. P x × Q x) xs
+pub all_both : {X : Type 0} (P Q : X → Type 0) (xs : List X) → AllByRecursion P xs → AllByRecursion Q xs → AllByRecursion (λ x. P x × Q x) xs
 all_both P Q [] h k = tt
 all_both P Q (x ∷ xs) h k = ((h.0, k.0), all_both P Q xs h.1 k.1)
 
@@ -21,12 +21,12 @@ module _ {M : Type 0} (O : ModuleOps M) (a : ℕ → Scalar) (e : ℕ → ℕ �
 
   abbrev pub Spread : List ℕ → Type 0
   Spread [] = Unit {0}
-  Spread (b ∷ B) = All (λ k. Apart k b) B × Spread B
+  Spread (b ∷ B) = AllByRecursion (λ k. Apart k b) B × Spread B
 
 module _ {M : Type 0} {O : ModuleOps M} {q : ℕ} (L : ModuleLaws O q) where
   open O use {nil, add, neg, shift}
 
-  cancels : (f g : ℕ → M) (s : Scalar) (B : List ℕ) → All (λ j. add (f j) (act O s (g j)) ≡ nil) B → add (total O f B) (act O s (total O g B)) ≡ nil
+  cancels : (f g : ℕ → M) (s : Scalar) (B : List ℕ) → AllByRecursion (λ j. add (f j) (act O s (g j)) ≡ nil) B → add (total O f B) (act O s (total O g B)) ≡ nil
   cancels f g s [] h = simp (ring, L)
   cancels f g s (j ∷ B) h = ap (add _) (act_add L s _ _) ∙ interchange L _ _ _ _ ∙ ap₂ add h.0 (cancels f g s B h.1) ∙ L.add_nil nil
 
@@ -37,7 +37,7 @@ module _ {M : Type 0} {O : ModuleOps M} {q : ℕ} (L : ModuleLaws O q) where
     factor_same : (z : Scalar) (j : ℕ) → factor a e z j j ≡ one
     factor_same z j = cond-true _ _ _ (eq-eqb j j refl)
 
-    value_basis : (b : ℕ) (B : List ℕ) → All (λ k. Apart O a e k b) B → (m : M) (z : Scalar) → value O (basis O a e b B m) z ≡ act O (weight a e z b B) m
+    value_basis : (b : ℕ) (B : List ℕ) → AllByRecursion (λ k. Apart O a e k b) B → (m : M) (z : Scalar) → value O (basis O a e b B m) z ≡ act O (weight a e z b B) m
     value_basis b [] h m z = ap (add m) (act_nil L z) ∙ L.add_nil m
     value_basis b (k ∷ B) h m z =
         rw (factor_apart z b k h.0.distinct)
@@ -47,11 +47,11 @@ module _ {M : Type 0} {O : ModuleOps M} {q : ℕ} (L : ModuleLaws O q) where
     length_basis b [] m = refl
     length_basis b (k ∷ B) m = rw (length_grow L) (ap suc (length_basis b B m))
 
-    weight_same : (b : ℕ) (B : List ℕ) → All (λ k. Apart O a e k b) B → (m : M) → act O (weight a e (a b) b B) m ≡ m
+    weight_same : (b : ℕ) (B : List ℕ) → AllByRecursion (λ k. Apart O a e k b) B → (m : M) → act O (weight a e (a b) b B) m ≡ m
     weight_same b [] h m = refl
     weight_same b (k ∷ B) h m = rw (factor_apart (a b) b k h.0.distinct) (h.0.unit _ ∙ weight_same b B h.1 m)
 
-    weight_other : (b : ℕ) (B : List ℕ) → All (λ k. Apart O a e k b) B → All (λ j. (m : M) → act O (weight a e (a j) b B) m ≡ nil) B
+    weight_other : (b : ℕ) (B : List ℕ) → AllByRecursion (λ k. Apart O a e k b) B → AllByRecursion (λ j. (m : M) → act O (weight a e (a j) b B) m ≡ nil) B
     weight_other b [] h = tt
     weight_other b (k ∷ B) h = (
       λ m. rw (factor_apart (a k) b k h.0.distinct) (L.add_neg _),

@@ -1,7 +1,7 @@
 -- Polynomials over a module: their values, sums, factors and quotients.
 use Rattle.std.proofs.Common.{◌≡◌, ℕ, zero, suc, ◌≤◌, List, [], ◌∷◌, map, length, get_or, sym, refl, ap, ◌∙◌, arith}
 use mathlib.Core.List.{zip_with}
-use Rattle.std.specs.List.{AllByRecursion as All}
+use Rattle.std.specs.List.{AllByRecursion}
 use Rattle.std.proofs.ByRecursion.{All-weaker}
 use Rattle.algebra.specs.Module.{ModuleOps, ModuleLaws}
 use Rattle.algebra.specs.Scalars.{Scalar, one, minus, act}
@@ -72,7 +72,7 @@ module _ {M : Type 0} {O : ModuleOps M} {q : ℕ} (L : ModuleLaws O q) where
     value_cover : (i : ℕ) (S : List ℕ) (δ : M) (z : Scalar) → value O (cover O e (i ∷ S) δ) z ≡ add (value O (cover O e S δ) z) (neg (act O z (act O (e i) (value O (cover O e S δ) z))))
     value_cover i S δ z = value_grow one (minus (e i)) nil (cover O e S δ) z ∙ nil_add L _ ∙ ap (add _) (act_neg L z _)
 
-    pub cover_vanishes : (S : List ℕ) → All (λ i. (m : M) → act O (a i) (act O (e i) m) ≡ m) S → (δ : M) → All (λ i. value O (cover O e S δ) (a i) ≡ nil) S
+    pub cover_vanishes : (S : List ℕ) → AllByRecursion (λ i. (m : M) → act O (a i) (act O (e i) m) ≡ m) S → (δ : M) → AllByRecursion (λ i. value O (cover O e S δ) (a i) ≡ nil) S
     cover_vanishes [] units δ = tt
     cover_vanishes (i ∷ S) units δ = (
       value_cover i S δ (a i) ∙ ap (add _) (ap neg (units.0 _)) ∙ L.add_neg _,

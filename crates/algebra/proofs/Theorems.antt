@@ -1,7 +1,7 @@
 -- The theorems at the indices below q.
 use Rattle.std.proofs.Common.{◌≡◌, ℕ, ◌<◌, List, [], ◌∷◌, length, sym, ap, ◌∙◌}
 use mathlib.Core.List.{zip_with}
-use Rattle.std.specs.List.{AllByRecursion as All}
+use Rattle.std.specs.List.{AllByRecursion}
 use Rattle.std.proofs.ByRecursion.{All-weaker}
 use Rattle.algebra.specs.Module.{ModuleOps, ModuleLaws}
 use Rattle.algebra.specs.Scalars.{Scalar, one, minus, point, geometric}
@@ -12,7 +12,7 @@ use Rattle.algebra.proofs.Polynomials.{terms_value, value_join, zip_join, value_
 use Rattle.algebra.proofs.Lagrange.{all_both, Apart, Spread, lagrange}
 
 module _ {M : Type 0} {O : ModuleOps M} {q : ℕ} (L : ModuleLaws O q) (inv : ℕ → ℕ) (inverts : Inverts q inv) where
-  spread : (B : List ℕ) → Distinct B → All (λ k. k < q) B → Spread O point (inverse q inv) B
+  spread : (B : List ℕ) → Distinct B → AllByRecursion (λ k. k < q) B → Spread O point (inverse q inv) B
   spread [] d below = tt
   spread (b ∷ B) d below = (
     All-weaker (λ k. (k ≡ b → ⊥) × (k < q)) (λ k. Apart O point (inverse q inv) k b)
@@ -27,7 +27,7 @@ module _ {M : Type 0} {O : ModuleOps M} {q : ℕ} (L : ModuleLaws O q) (inv : �
   abbrev inverses : ℕ → Scalar
   inverses i = geometric i (inv i)
 
-  vanishes : (S : List ℕ) → All (λ i. (0 < i) × (i < q)) S → (δ : M) → All (λ i. value O (cover O inverses S δ) (point i) ≡ O.nil) S
+  vanishes : (S : List ℕ) → AllByRecursion (λ i. (0 < i) × (i < q)) S → (δ : M) → AllByRecursion (λ i. value O (cover O inverses S δ) (point i) ≡ O.nil) S
   vanishes S inside = cover_vanishes L point inverses S (All-weaker (λ i. (0 < i) × (i < q)) _ (λ i h. point_unit L i (inv i) (inverts i h.0 h.1)) S inside)
 
   pub sharing : Sharing O q inv

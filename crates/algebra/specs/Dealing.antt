@@ -1,6 +1,6 @@
 -- What a holder is dealt of a key, and the tuple that some shares give at a point.
 use Rattle.std.specs.Prelude.{◌≡◌, ℕ, ◌-◌, ◌*◌, ◌<◌, ◌≤◌, T, List, ◌∷◌, length}
-use Rattle.std.specs.List.{AllByRecursion as All}
+use Rattle.std.specs.List.{AllByRecursion}
 use Rattle.algebra.specs.Group.{GroupOps}
 use Rattle.algebra.specs.Tuples.{all_valid, tuple_zero, list_ops}
 use Rattle.algebra.specs.Scalars.{Scalar, act, point}
@@ -30,9 +30,9 @@ tuple_at G q B p shares =
 -- as many tuples as there are helpers less one, the tuple at any point below q is what that point would be dealt; at 0 it is the key.
 abbrev pub Interpolates : {C : Type 0} → GroupOps C → ℕ → Type 0
 Interpolates {C} G q =
-    (B : List ℕ) → 0 < length B → Distinct B → All (λ j. (1 ≤ j) × (j < q)) B
+    (B : List ℕ) → 0 < length B → Distinct B → AllByRecursion (λ j. (1 ≤ j) × (j < q)) B
     → (k : C) (cs shares : List C) → T (G.valid k) → T (all_valid G cs) → length cs ≡ (length B - 1) * (q - 1)
-    → All (λ j. row_at (q - 1) (j - 1) shares ≡ dealt G (q - 1) j k (length B - 1) cs) B
+    → AllByRecursion (λ j. row_at (q - 1) (j - 1) shares ≡ dealt G (q - 1) j k (length B - 1) cs) B
     → (p : ℕ) → tuple_at G q B p shares ≡ dealt G (q - 1) p k (length B - 1) cs
 
 -- the point 0 is dealt the key itself

@@ -1,5 +1,5 @@
 -- A holder's share after dealing, present or not.
-use Rattle.std.proofs.Common.{◌≡◌, ℕ, ◌+◌, ◌-◌, ◌*◌, ◌<◌, ◌≤◌, Bool, true, false, T, List, ◌++◌, length, None, Ok, Err, Option, Result, sym, ap, ◌∙◌, arith, MatchResult}
+use Rattle.std.proofs.Common.{◌≡◌, ℕ, ◌+◌, ◌-◌, ◌*◌, ◌<◌, ◌≤◌, Bool, true, T, List, length, None, Ok, Err, Option, Result, ap, ◌∙◌, arith, MatchResult}
 use Rattle.algebra.specs.Group.{GroupOps, GroupLaws}
 use Rattle.algebra.specs.Tuples.{all_valid, ok}
 use Rattle.algebra.specs.Space.{ok_length, ok_valid}

@@ -1,5 +1,5 @@
 -- A dealing by its direction and by the key that is dealt, which for a refresh is zero.
-use Rattle.std.specs.Prelude.{◌≡◌, ℕ, ◌-◌, not, List, [], ◌∷◌, Option, nat_le}
+use Rattle.std.specs.Prelude.{◌≡◌, ℕ, ◌-◌, not, List, ◌∷◌, Option, nat_le}
 use Rattle.algebra.specs.Group.{GroupOps}
 use Rattle.algebra.specs.Rows.{rows, flat}
 use Rattle.algebra.specs.Dealing.{dealt}

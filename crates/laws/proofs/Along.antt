@@ -1,6 +1,6 @@
 -- What holds at every entry of a trace, and at its end.
 use Rattle.std.proofs.Common.{◌≡◌, ℕ, ◌+◌, ◌≤◌, Bool, true, false, cond, leb, List, [], ◌∷◌, length, Some, None, Option, sym, refl, ap, ◌∙◌, subst, arith}
-use Rattle.std.specs.List.{AllByRecursion as All}
+use Rattle.std.specs.List.{AllByRecursion}
 use Rattle.std.proofs.ByRecursion.{All-weaker}
 use Rattle.std.proofs.lemmas.Bool.{le-leb, lt-leb}
 use Rattle.algebra.specs.Group.{GroupOps, GroupLaws}
@@ -70,7 +70,7 @@ module _ {C A : Type 0} (f : Deal C → List C → A → A) where
           let k : (outcome G s st x).state.ledger.epoch ≤ r.ledger.epoch = h.0 in
           (omega arith, subst (λ b. J r (gathered f r.ledger.epoch b es)) (sym (t.settles r.ledger.epoch k a)) h.1)
 
-      since_all : (xs : List (Request C)) (st : State C) (a : A) → J st a → All (λ y. Since st a (trace G s st xs) y.before) (trace G s st xs)
+      since_all : (xs : List (Request C)) (st : State C) (a : A) → J st a → AllByRecursion (λ y. Since st a (trace G s st xs) y.before) (trace G s st xs)
       since_all [] st a j = tt
       since_all (x ∷ xs) st a j = (
         (omega arith, subst (J st) (sym (nothing_yet (x ∷ xs) st st.ledger.epoch (omega arith) a)) j),
@@ -83,7 +83,7 @@ module _ {C A : Type 0} (f : Deal C → List C → A → A) where
       since_last (x ∷ xs) st a j = sooner st x a (trace G s (outcome G s st x).state xs) _ (since_last xs (outcome G s st x).state _ (keep st x a j))
 
       -- J holds before every request, of what was gathered by the epoch then
-      pub along : (xs : List (Request C)) (st : State C) (a : A) → J st a → All (λ y. J y.before (gathered f y.before.ledger.epoch a (trace G s st xs))) (trace G s st xs)
+      pub along : (xs : List (Request C)) (st : State C) (a : A) → J st a → AllByRecursion (λ y. J y.before (gathered f y.before.ledger.epoch a (trace G s st xs))) (trace G s st xs)
       along xs st a j = All-weaker _ (λ y. J y.before (gathered f y.before.ledger.epoch a (trace G s st xs))) (λ y h. h.1) (trace G s st xs) (since_all xs st a j)
 
       pub at_last : (xs : List (Request C)) (st : State C) (a : A) → J st a → J (run G s st xs) (gathered f (run G s st xs).ledger.epoch a (trace G s st xs))
@@ -91,7 +91,7 @@ module _ {C A : Type 0} (f : Deal C → List C → A → A) where
 
 module _ {C : Type 0} (G : GroupOps C) (s : Scheme) where
   -- a property of every request, with the state before it and its answer
-  pub all_trace : (Q : Entry C → Type 0) → ((st : State C) (x : Request C) → Q (record { before = st; request = x; answer = (outcome G s st x).answer })) → (xs : List (Request C)) (st : State C) → All Q (trace G s st xs)
+  pub all_trace : (Q : Entry C → Type 0) → ((st : State C) (x : Request C) → Q (record { before = st; request = x; answer = (outcome G s st x).answer })) → (xs : List (Request C)) (st : State C) → AllByRecursion Q (trace G s st xs)
   all_trace Q q [] st = tt
   all_trace Q q (x ∷ xs) st = (q st x, all_trace Q q xs (outcome G s st x).state)
 

@@ -1,7 +1,7 @@
 -- The polynomial that a history has dealt: each share is its value, and at 0 it is the total.
 use Rattle.std.proofs.Common.{◌≡◌, ℕ, zero, suc, ◌+◌, ◌-◌, ◌*◌, ◌<◌, ◌≤◌, Bool, true, false, cond, not, ◌&&◌, T, ◌⊎◌, List, [], ◌∷◌, length, get_or, set, Some, None, Option, sym, refl, ap, ◌∙◌, subst, ap₂, inl, inr, arith}
 use lib.ListN.{length-replicate}
-use Rattle.std.specs.List.{AllByRecursion as All}
+use Rattle.std.specs.List.{AllByRecursion}
 use Rattle.std.proofs.ByRecursion.{All-weaker}
 use Rattle.std.proofs.lemmas.List.{length-map, length-set, get_or-set_same, get_or-set_other}
 use Rattle.std.proofs.lemmas.Bool.{cond-true, le-leb, lt-ltb, cases_eq, not_from_true}
@@ -72,7 +72,7 @@ module _ {C : Type 0} (G : GroupOps C) (L : GroupLaws G) (w : ℕ) where
   credited_ok Add false ys r h k = k
   credited_ok Subtract false ys r h k = k
 
-  shared_ok : (d : Change) (f : ℕ → List C) → ((j : ℕ) → T (ok G w (f j))) → (i : ℕ) (hs : List Holder) (rs : List (List C)) → All (λ r. T (ok G w r)) rs → All (λ r. T (ok G w r)) (shared_out G d f i hs rs)
+  shared_ok : (d : Change) (f : ℕ → List C) → ((j : ℕ) → T (ok G w (f j))) → (i : ℕ) (hs : List Holder) (rs : List (List C)) → AllByRecursion (λ r. T (ok G w r)) rs → AllByRecursion (λ r. T (ok G w r)) (shared_out G d f i hs rs)
   shared_ok d f g i hs [] h = tt
   shared_ok d f g i [] (r ∷ rs) h = h
   shared_ok d f g i (k ∷ hs) (r ∷ rs) h = (credited_ok d k.present (f i) r (g i) h.0, shared_ok d f g (i + 1) hs rs h.1)
@@ -200,7 +200,7 @@ module _ {C : Type 0} (G : GroupOps C) (L : GroupLaws G) (s : Scheme) where
     abbrev dealt_rows : State C → List (List C)
     dealt_rows st = shared_out G (direction d) share_for 1 st.ledger.holders (rows (s.q - 1) s.n st.shares)
 
-    rows_are_ok : (st : State C) → Sound G L s st → All (λ r. T (ok G (s.q - 1) r)) (dealt_rows st)
+    rows_are_ok : (st : State C) → Sound G L s st → AllByRecursion (λ r. T (ok G (s.q - 1) r)) (dealt_rows st)
     rows_are_ok st o = shared_ok G L (s.q - 1) (direction d) share_for (λ i. dealt_ok G L (s.q - 1) i (s.t - 1) (key_of G d) cs wide enough p.key p.valid) 1 st.ledger.holders _
         (rows_ok G L (s.q - 1) s.n st.shares (omega (arith, o.size)) o.valid)
 

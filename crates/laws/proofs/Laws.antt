@@ -1,6 +1,6 @@
 -- What follows at each entry of a history and at its end: the shares are as dealt, and openings return the total.
 use Rattle.std.proofs.Common.{◌≡◌, ℕ, suc, ◌-◌, ◌*◌, ◌<◌, Bool, true, false, cond, not, eqb, List, [], ◌∷◌, length, Some, None, Option, sym, refl, ap, ◌∙◌, subst, ap₂, arith}
-use Rattle.std.specs.List.{AllByRecursion as All}
+use Rattle.std.specs.List.{AllByRecursion}
 use Rattle.std.proofs.ByRecursion.{All-weaker}
 use Rattle.algebra.specs.Group.{GroupOps, GroupLaws}
 use Rattle.algebra.specs.Tuples.{tuple_zero}
@@ -35,7 +35,7 @@ module _ {C : Type 0} (G : GroupOps C) (L : GroupLaws G) (s : Scheme) where
     pub poly_dealt_to : (h e : ℕ) → dealt_to G s h e (history G s xs) ≡ (value (O G L s) (poly e) (point h)).0
     poly_dealt_to h e = gathered_both G s L (grown G L s) (credit G s h) (λ P m. m ≡ (value (O G L s) P (point h)).0) (λ d cs P m p r. credit_value G L s d cs p h P m r) xs (made G s) e [] (tuple_zero G (s.q - 1)) refl
 
-    poly_shared : All (λ x. Shared G L s x.before (poly x.before.ledger.epoch)) (history G s xs)
+    poly_shared : AllByRecursion (λ x. Shared G L s x.before (poly x.before.ledger.epoch)) (history G s xs)
     poly_shared = along (grown G L s) G s (Shared G L s) (keep G L s) xs (made G s) [] (start_shared G L s)
 
     -- the shares of a state are as dealt
@@ -50,7 +50,7 @@ module _ {C : Type 0} (G : GroupOps C) (L : GroupLaws G) (s : Scheme) where
         ∙ ap₂ (λ c i. cond c (value (O G L s) (poly st.ledger.epoch) (point i)).0 (tuple_zero G (s.q - 1))) (sym (present_at s st.ledger.holders h b)) k
         ∙ ap (λ m. cond (is_present st.ledger.holders h) m (tuple_zero G (s.q - 1))) (sym (poly_dealt_to h st.ledger.epoch))
 
-    pub all_dealt : All (λ x. Dealt x.before) (history G s xs)
+    pub all_dealt : AllByRecursion (λ x. Dealt x.before) (history G s xs)
     all_dealt = All-weaker _ (λ x. Dealt x.before) (λ x. is_dealt x.before) (history G s xs) poly_shared
 
     pub last_dealt : Dealt (left_by G s xs)
@@ -68,7 +68,7 @@ module _ {C : Type 0} (G : GroupOps C) (L : GroupLaws G) (s : Scheme) where
         let a = total_at G st.ledger.epoch (history G s xs) in
         h ∙ foretells G L s (fault G s st (length x.request.working) c) st x.request.working c (poly st.ledger.epoch) a (sym f) j (poly_worth st.ledger.epoch) ∙ ap (λ v. foretold_by G L s v st.ledger a c) f
 
-    pub all_foretold : All Foretold (history G s xs)
+    pub all_foretold : AllByRecursion Foretold (history G s xs)
     all_foretold = All-weaker (λ x. (x.answer ≡ (outcome G s x.before x.request).answer) × Shared G L s x.before (poly x.before.ledger.epoch)) Foretold
         (λ x h. foretold x h.0 h.1) (history G s xs)
         (all_both _ _ _ (all_trace G s (λ x. x.answer ≡ (outcome G s x.before x.request).answer) (λ st x. refl) xs (made G s)) poly_shared)
@@ -78,7 +78,7 @@ module _ {C : Type 0} (G : GroupOps C) (L : GroupLaws G) (s : Scheme) where
   Small None = Unit {0}
   Small (Some f) = (refusal f).0 < 15
 
-  small_first : (os : List (Option CabinetFault)) → All Small os → Small (first os)
+  small_first : (os : List (Option CabinetFault)) → AllByRecursion Small os → Small (first os)
   small_first [] h = tt
   small_first (None ∷ os) h = small_first os h.1
   small_first (Some f ∷ os) h = h.0

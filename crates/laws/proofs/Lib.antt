@@ -6,5 +6,5 @@ pub mod Keeps
 pub mod Laws
 pub mod Steady
 pub mod Masks
-pub mod Hides
+pub mod Hiding
 pub mod Whole

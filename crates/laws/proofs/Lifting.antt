@@ -1,6 +1,6 @@
 -- Lists as tuples, and what polynomials of tuples say of the lists.
 use Rattle.std.proofs.Common.{◌≡◌, ℕ, ◌*◌, ◌<◌, ◌≤◌, Bool, true, false, T, List, [], ◌∷◌, map, length, sym, refl, ap, ◌∙◌, subst, ap₂}
-use Rattle.std.specs.List.{AllByRecursion as All}
+use Rattle.std.specs.List.{AllByRecursion}
 use Rattle.algebra.specs.Group.{GroupOps, GroupLaws}
 use Rattle.algebra.specs.Tuples.{all_valid, tuple_plus, tuple_minus, ok, list_ops}
 use Rattle.algebra.specs.Space.{Tuple, tuple_ops}
@@ -33,11 +33,11 @@ module _ {C : Type 0} (G : GroupOps C) (L : GroupLaws G) (w : ℕ) where
   unfolding lift
   lift_ok m h = lifts m (ok G w m) refl h
 
-  pub value_lift : (rs : List (List C)) → All (λ r. T (ok G w r)) rs → (z : Scalar) → (value (tuple_ops G L w) (map lift rs) z).0 ≡ value (list_ops G w) rs z
+  pub value_lift : (rs : List (List C)) → AllByRecursion (λ r. T (ok G w r)) rs → (z : Scalar) → (value (tuple_ops G L w) (map lift rs) z).0 ≡ value (list_ops G w) rs z
   value_lift [] h z = refl
   value_lift (r ∷ rs) h z = ap₂ (tuple_plus G) (lift_ok r h.0) (act_list G L w z _ ∙ ap (act (list_ops G w) z) (value_lift rs h.1 z))
 
-  pub total_lift : (f : ℕ → Tuple G w) (g : ℕ → List C) (B : List ℕ) → All (λ j. (f j).0 ≡ g j) B → (total (tuple_ops G L w) f B).0 ≡ total (list_ops G w) g B
+  pub total_lift : (f : ℕ → Tuple G w) (g : ℕ → List C) (B : List ℕ) → AllByRecursion (λ j. (f j).0 ≡ g j) B → (total (tuple_ops G L w) f B).0 ≡ total (list_ops G w) g B
   total_lift f g [] h = refl
   total_lift f g (j ∷ B) h = ap₂ (tuple_plus G) h.0 (total_lift f g B h.1)
 

@@ -1,7 +1,7 @@
 -- A dealing with another key and a mask is accepted as the dealing was, and deals the same shares to the holders of the mask.
 use Rattle.std.proofs.Common.{◌≡◌, ℕ, zero, suc, ◌-◌, ◌*◌, ◌<◌, ◌≤◌, T, List, [], ◌∷◌, map, length, get_or, take, drop, sym, refl, ap, ◌∙◌, subst, ap₂, arith}
 use mathlib.Core.List.{zip_with}
-use Rattle.std.specs.List.{AllByRecursion as All}
+use Rattle.std.specs.List.{AllByRecursion}
 use Rattle.std.proofs.ByRecursion.{All-weaker}
 use Rattle.std.proofs.lemmas.List.{length-map}
 use Rattle.algebra.specs.Group.{GroupOps, GroupLaws}
@@ -29,7 +29,7 @@ use Rattle.laws.proofs.Lifting.{lift, lift_ok, poly_of, poly_dealt}
 use Rattle.laws.proofs.Keeps.{O, wide, two}
 
 -- a property for every d, at every element
-all_pi : {X D : Type 0} (P : D → X → Type 0) (xs : List X) → ((d : D) → All (P d) xs) → All (λ x. (d : D) → P d x) xs
+all_pi : {X D : Type 0} (P : D → X → Type 0) (xs : List X) → ((d : D) → AllByRecursion (P d) xs) → AllByRecursion (λ x. (d : D) → P d x) xs
 all_pi P [] f = tt
 all_pi P (x ∷ xs) f = (λ d. (f d).0, all_pi P xs (λ d. (f d).1))
 
@@ -117,7 +117,7 @@ module _ {C : Type 0} (G : GroupOps C) (L : GroupLaws G) (w : ℕ) where
   upper_list [] = refl
   upper_list (c ∷ cs) = refl
 
-  lists_ok : (ms : List (Tuple G w)) → All (λ r. T (ok G w r)) (map list_of ms)
+  lists_ok : (ms : List (Tuple G w)) → AllByRecursion (λ r. T (ok G w r)) (map list_of ms)
   lists_ok [] = tt
   lists_ok (m ∷ ms) = (m.1, lists_ok ms)
 
@@ -125,7 +125,7 @@ module _ {C : Type 0} (G : GroupOps C) (L : GroupLaws G) (w : ℕ) where
   lift_plus r m h = same_tuple G w _ ((tuple_ops G L w).add (lift G L w r) m)
       (lift_ok G L w (tuple_plus G r m.0) (plus_ok G L w r m.0 h m.1) ∙ ap (λ a. tuple_plus G a m.0) (sym (lift_ok G L w r h)))
 
-  lift_zip : (rs : List (List C)) (ms : List (Tuple G w)) → All (λ r. T (ok G w r)) rs → map (lift G L w) (zip_with (tuple_plus G) rs (map list_of ms)) ≡ zip_with (tuple_ops G L w).add (map (lift G L w) rs) ms
+  lift_zip : (rs : List (List C)) (ms : List (Tuple G w)) → AllByRecursion (λ r. T (ok G w r)) rs → map (lift G L w) (zip_with (tuple_plus G) rs (map list_of ms)) ≡ zip_with (tuple_ops G L w).add (map (lift G L w) rs) ms
   unfolding zip_with
   lift_zip [] ms h = refl
   lift_zip (r ∷ rs) [] h = refl
@@ -136,7 +136,7 @@ module _ {C : Type 0} (G : GroupOps C) (L : GroupLaws G) (s : Scheme) (B : List 
   abbrev pub Blind : ℕ → Type 0
   Blind h = (δ : Tuple G (s.q - 1)) → value (O G L s) (cover (O G L s) (λ i. geometric i (inverse_number s.q i)) B δ) (point h) ≡ (O G L s).nil
 
-  pub all_blind : All (InScheme s) B → All Blind B
+  pub all_blind : AllByRecursion (InScheme s) B → AllByRecursion Blind B
   all_blind inside = all_pi (λ δ h. value (O G L s) (cover (O G L s) (λ i. geometric i (inverse_number s.q i)) B δ) (point h) ≡ (O G L s).nil) B
       ((sharing (tuple_laws G L s.q (two G L s)) (inverse_number s.q) (inverts s.q s.prime s.small)).cover_vanishes B
       (All-weaker (InScheme s) (λ h. (0 < h) × (h < s.q)) (λ h b. (b.0, omega (arith, b.1, s.above))) B inside))
@@ -168,7 +168,7 @@ module _ {C : Type 0} (G : GroupOps C) (L : GroupLaws G) (s : Scheme) (B : List 
     unfolding lists
     all_lists = length-map tuples (list_of G L (s.q - 1)) ∙ length_padded (O G L s).nil (s.t - 1) _
 
-    oks : All (λ r. T (ok G (s.q - 1) r)) lists
+    oks : AllByRecursion (λ r. T (ok G (s.q - 1) r)) lists
     unfolding lists
     oks = lists_ok G L (s.q - 1) tuples
 

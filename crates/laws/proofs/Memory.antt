@@ -1,6 +1,6 @@
 -- Rows of the share memory: of a list made of rows, and after a write to one.
 use Rattle.std.proofs.Common.{◌≡◌, ℕ, ◌+◌, ◌-◌, ◌*◌, ◌<◌, ◌≤◌, T, List, [], ◌∷◌, ◌++◌, length, get_or, take, drop, set, replicate, sym, refl, ap, ◌∙◌, ap₂, suc-mul, zero-mul, arith, length-append}
-use Rattle.std.specs.List.{AllByRecursion as All}
+use Rattle.std.specs.List.{AllByRecursion}
 use Rattle.std.proofs.ByRecursion.{All-weaker}
 use Rattle.std.proofs.lemmas.List.{take_at, drop_at, length-take-le, length-drop, get_or-set_same, get_or-set_other, take-replicate, drop-replicate}
 use Rattle.algebra.specs.Group.{GroupOps}
@@ -11,12 +11,12 @@ use Rattle.algebra.specs.Rows.{rows, row_at, put_row, flat}
 use Rattle.algebra.proofs.RowLists.{get_d_rows, rows_put, length_rows, row_end, take_valid, drop_valid}
 
 module _ {X : Type 0} (w : ℕ) where
-  pub rows_flat : (rs : List (List X)) → All (λ r. length r ≡ w) rs → rows w (length rs) (flat rs) ≡ rs
+  pub rows_flat : (rs : List (List X)) → AllByRecursion (λ r. length r ≡ w) rs → rows w (length rs) (flat rs) ≡ rs
   rows_flat [] h = refl
   rows_flat (r ∷ rs) h =
       ap₂ (λ a b. a ∷ rows w (length rs) b) (take_at r (flat rs) w h.0) (drop_at r (flat rs) w h.0) ∙ ap (λ b. r ∷ b) (rows_flat rs h.1)
 
-  pub length_flat : (rs : List (List X)) → All (λ r. length r ≡ w) rs → length (flat rs) ≡ length rs * w
+  pub length_flat : (rs : List (List X)) → AllByRecursion (λ r. length r ≡ w) rs → length (flat rs) ≡ length rs * w
   length_flat [] h = sym (zero-mul w)
   length_flat (r ∷ rs) h = omega (arith, length-append r (flat rs), length_flat rs h.1, h.0, suc-mul (length rs) w)
 
@@ -42,19 +42,19 @@ module _ {X : Type 0} (w : ℕ) where
       ap (take w) (drop-replicate (i * w) (n * w) x) ∙ take-replicate w (n * w - i * w) x (omega arith)
 
 module _ {C : Type 0} (G : GroupOps C) (w : ℕ) where
-  all_lengths : (rs : List (List C)) → All (λ r. T (ok G w r)) rs → All (λ r. length r ≡ w) rs
+  all_lengths : (rs : List (List C)) → AllByRecursion (λ r. T (ok G w r)) rs → AllByRecursion (λ r. length r ≡ w) rs
   all_lengths rs h = All-weaker (λ r. T (ok G w r)) (λ r. length r ≡ w) (λ r k. ok_length G w r k) rs h
 
-  pub flat_rows_are : (rs : List (List C)) → All (λ r. T (ok G w r)) rs → rows w (length rs) (flat rs) ≡ rs
+  pub flat_rows_are : (rs : List (List C)) → AllByRecursion (λ r. T (ok G w r)) rs → rows w (length rs) (flat rs) ≡ rs
   flat_rows_are rs h = rows_flat w rs (all_lengths rs h)
 
-  pub row_flat : (rs : List (List C)) → All (λ r. T (ok G w r)) rs → (i : ℕ) → i < length rs → row_at w i (flat rs) ≡ get_or rs i []
+  pub row_flat : (rs : List (List C)) → AllByRecursion (λ r. T (ok G w r)) rs → (i : ℕ) → i < length rs → row_at w i (flat rs) ≡ get_or rs i []
   row_flat rs h i l = sym (get_d_rows w (length rs) i (flat rs) [] l) ∙ ap (λ r. get_or r i []) (flat_rows_are rs h)
 
-  pub flat_long : (rs : List (List C)) → All (λ r. T (ok G w r)) rs → length (flat rs) ≡ length rs * w
+  pub flat_long : (rs : List (List C)) → AllByRecursion (λ r. T (ok G w r)) rs → length (flat rs) ≡ length rs * w
   flat_long rs h = length_flat w rs (all_lengths rs h)
 
-  pub flat_valid : (rs : List (List C)) → All (λ r. T (ok G w r)) rs → T (all_valid G (flat rs))
+  pub flat_valid : (rs : List (List C)) → AllByRecursion (λ r. T (ok G w r)) rs → T (all_valid G (flat rs))
   flat_valid [] h = tt
   flat_valid (r ∷ rs) h = append_valid G r (flat rs) (ok_valid G w r h.0) (flat_valid rs h.1)
 

@@ -1,6 +1,6 @@
 -- What an accepted call has passed, and that the rows on share memory pass where it is right.
 use Rattle.std.proofs.Common.{◌≡◌, ℕ, zero, suc, ◌+◌, ◌-◌, ◌*◌, ◌<◌, ◌≤◌, Bool, true, false, not, ◌||◌, T, ltb, leb, List, [], ◌∷◌, ◌++◌, length, get_or, Some, None, Option, refl, ap, ◌∙◌, arith}
-use Rattle.std.specs.List.{AllByRecursion as All}
+use Rattle.std.specs.List.{AllByRecursion}
 use Rattle.std.proofs.lemmas.Bool.{cond-false, not_from_true, not-false, or_parts, ltb-false}
 use Rattle.algebra.specs.Group.{GroupOps, GroupLaws}
 use Rattle.algebra.specs.Tuples.{all_valid, invalid_at}
@@ -58,9 +58,9 @@ module _ {C : Type 0} (G : GroupOps C) where
 -- helpers that were accepted
 pub record Listed (s : Scheme) (holders : List Holder) (hs : List ℕ) : Type 0 where
   pub right : length hs ≡ s.t
-  pub known : All (λ h. (1 ≤ h) × (h ≤ s.n)) hs
+  pub known : AllByRecursion (λ h. (1 ≤ h) × (h ≤ s.n)) hs
   pub different : Distinct hs
-  pub there : All (λ h. is_present holders h ≡ true) hs
+  pub there : AllByRecursion (λ h. is_present holders h ≡ true) hs
 
 pub listed : (s : Scheme) (holders : List Holder) (hs : List ℕ) → first (list_rows s holders hs) ≡ None → Listed s holders hs
 listed s holders hs e =

@@ -4,7 +4,7 @@ use Rattle.sharing.specs.declared.scheme.Scheme.{Scheme}
 use Rattle.laws.specs.Promises.{Promises}
 use Rattle.laws.proofs.Laws.{opens_to_total}
 use Rattle.laws.proofs.Steady.{shares_as_dealt}
-use Rattle.laws.proofs.Hides.{few_shares_tell_nothing}
+use Rattle.laws.proofs.Hiding.{few_shares_tell_nothing}
 
 pub promises : {C : Type 0} (G : GroupOps C) → GroupLaws G → (s : Scheme) → Promises G s
 promises G L s = record {

@@ -1,6 +1,6 @@
 -- The laws of every history.
 use Rattle.std.specs.Prelude.{◌≡◌, ℕ, ◌-◌, ◌*◌, ◌<◌, ◌≤◌, true, false, T, List, length, Some, None, ◌≢◌}
-use Rattle.std.specs.List.{AllZip, AllByRecursion as All}
+use Rattle.std.specs.List.{AllZip, AllByRecursion}
 use Rattle.algebra.specs.Group.{GroupOps}
 use Rattle.algebra.specs.Tuples.{tuple_zero, all_valid}
 use Rattle.sharing.specs.declared.fault.CabinetFault.{CabinetFault}
@@ -29,7 +29,7 @@ module _ {C : Type 0} (G : GroupOps C) (s : Scheme) where
 
   -- each opening of a history returns the total at the epoch then
   abbrev pub OpensToTotal : Type 0
-  OpensToTotal = (xs : List (Request C)) → All (λ x. Opens (total_at G x.before.ledger.epoch (history G s xs)) x) (history G s xs)
+  OpensToTotal = (xs : List (Request C)) → AllByRecursion (λ x. Opens (total_at G x.before.ledger.epoch (history G s xs)) x) (history G s xs)
 
   -- the share of the holder h after some requests
   pub record AsDealt (xs : List (Request C)) (h : ℕ) : Type 0 where
@@ -47,7 +47,7 @@ module _ {C : Type 0} (G : GroupOps C) (s : Scheme) where
   -- a state as the holders S see it: the ledger and their shares
   pub record Seen (S : List ℕ) (st other : State C) : Type 0 where
     pub ledger : other.ledger ≡ st.ledger
-    pub shares : All (λ h. share_of G s h other ≡ share_of G s h st) S
+    pub shares : AllByRecursion (λ h. share_of G s h other ≡ share_of G s h st) S
 
   -- two entries that the holders S cannot tell apart
   pub record Alike (S : List ℕ) (x y : Entry C) : Type 0 where
@@ -56,7 +56,7 @@ module _ {C : Type 0} (G : GroupOps C) (s : Scheme) where
 
   -- the total is the same at each epoch at which an opening was accepted
   abbrev pub Kept : List (Entry C) → List (Entry C) → Type 0
-  Kept xs ys = All (λ x. (hs : List ℕ) (k : C) → x.request.call ≡ opening hs → x.answer ≡ key_is k
+  Kept xs ys = AllByRecursion (λ x. (hs : List ℕ) (k : C) → x.request.call ≡ opening hs → x.answer ≡ key_is k
       → total_at G x.before.ledger.epoch ys ≡ total_at G x.before.ledger.epoch xs) xs
 
   -- two lists of requests that the holders S cannot tell apart
@@ -71,7 +71,7 @@ module _ {C : Type 0} (G : GroupOps C) (s : Scheme) where
   -- fewer than t holders cannot tell a history from the same with other keys, one for each request, that keep what was opened
   abbrev pub FewSharesTellNothing : Type 0
   FewSharesTellNothing =
-      (S : List ℕ) → All (InScheme s) S → length S < s.t
+      (S : List ℕ) → AllByRecursion (InScheme s) S → length S < s.t
       → Masks S × ((xs : List (Request C)) (keys : ℕ → C) → ((i : ℕ) → T (G.valid (keys i)))
       → Kept (history G s xs) (history G s (disguise G s S keys (history G s xs)))
       → Hides S xs (disguise G s S keys (history G s xs)))

@@ -1,7 +1,7 @@
 -- A list of helpers that no row refuses: t different holders of the scheme.
 use Rattle.std.proofs.Common.{◌≡◌, ℕ, suc, ◌-◌, ◌*◌, ◌<◌, ◌≤◌, false, not, ◌||◌, eqb, ltb, List, [], ◌∷◌, ◌++◌, length, get_or, take, None, Ok, sym, refl, arith}
 use Rattle.std.proofs.lemmas.Bool.{not-false, eqb-true, eqb-false, ltb-false, le-ltb, or_parts, or_from}
-use Rattle.std.specs.List.{AllByRecursion as All}
+use Rattle.std.specs.List.{AllByRecursion}
 use Rattle.algebra.specs.Theorems.{Distinct}
 use Rattle.sharing.specs.declared.fault.CabinetFault.TheVariants.{MemoryLength, CoefficientCount, UnknownHolder, HelperCount, UnknownHelper, RepeatedHelper}
 use Rattle.sharing.specs.declared.scheme.Scheme.{Scheme}
@@ -10,7 +10,7 @@ use Rattle.sharing.specs.Helpers.{among, unknown_at, repeated_at, helper_rows}
 use Rattle.sharing.specs.Shares.{length_rows, dealing_rows, tuple_rows}
 use Rattle.sharing.proofs.Verdicts.{verdict_ok, first_none, row_none, length_none, everywhere, length_fits, row_passes, first_passes}
 
-pub all_places : (P : ℕ → Type 0) (xs : List ℕ) → ((k : ℕ) → k < length xs → P (get_or xs k 0)) → All P xs
+pub all_places : (P : ℕ → Type 0) (xs : List ℕ) → ((k : ℕ) → k < length xs → P (get_or xs k 0)) → AllByRecursion P xs
 all_places P [] h = tt
 all_places P (x ∷ xs) h = (h 0 (omega arith), all_places P xs (λ k l. h (suc k) (omega arith)))
 

@@ -1,6 +1,6 @@
 -- What dealing to one holder and taking the tuple at a point are refused for, and what the latter gives.
 use Rattle.std.specs.Prelude.{◌≡◌, ℕ, ◌-◌, ◌*◌, ◌||◌, T, List, [], ◌∷◌, length, Option, nat_lt}
-use Rattle.std.specs.List.{AllByRecursion as All}
+use Rattle.std.specs.List.{AllByRecursion}
 use Rattle.algebra.specs.Group.{GroupOps}
 use Rattle.algebra.specs.Tuples.{all_valid, tuple_plus, tuple_less}
 use Rattle.algebra.specs.Rows.{row_at}
@@ -40,8 +40,8 @@ module _ (s : Scheme) where
 -- and at p = 0 that is the key.
 pub record Interpolated {C : Type 0} (G : GroupOps C) (s : Scheme) (hs : List ℕ) (p : ℕ) (shares m : List C) : Type 0 where
   pub share : (k : C) (cs : List C) → T (G.valid k) → T (all_valid G cs) → length cs ≡ (s.t - 1) * (s.q - 1)
-      → All (λ j. row_at (s.q - 1) (j - 1) shares ≡ dealt G (s.q - 1) j k (s.t - 1) cs) hs
+      → AllByRecursion (λ j. row_at (s.q - 1) (j - 1) shares ≡ dealt G (s.q - 1) j k (s.t - 1) cs) hs
       → m ≡ dealt G (s.q - 1) p k (s.t - 1) cs
   pub key : (k : C) (cs : List C) → T (G.valid k) → T (all_valid G cs) → length cs ≡ (s.t - 1) * (s.q - 1)
-      → All (λ j. row_at (s.q - 1) (j - 1) shares ≡ dealt G (s.q - 1) j k (s.t - 1) cs) hs
+      → AllByRecursion (λ j. row_at (s.q - 1) (j - 1) shares ≡ dealt G (s.q - 1) j k (s.t - 1) cs) hs
       → p ≡ 0 → m ≡ embedded G (s.q - 1) k

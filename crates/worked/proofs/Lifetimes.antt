@@ -1,6 +1,6 @@
 -- Six calls one after the other, from a making on: what the last, an opening, returns.
 use Rattle.std.proofs.Common.{◌≡◌, ℕ, ◌+◌, ◌-◌, ◌*◌, ◌≤◌, Bool, true, cond, leb, List, [], ◌∷◌, length, IfOk, Some, None, Ok, Err, Option, Result, sym, refl, ap, ◌∙◌, subst, ap₂, arith}
-use Rattle.std.specs.List.{AllByRecursion as All}
+use Rattle.std.specs.List.{AllByRecursion}
 use Rattle.std.proofs.lemmas.Bool.{le-leb}
 use Rattle.algebra.specs.Group.{GroupOps}
 use Rattle.algebra.specs.Tuples.{tuple_zero}
@@ -105,8 +105,8 @@ module _ {C : Type 0} (G : GroupOps C) (s : Scheme) where
       let t2 : trace G s st1 x2 ≡ y2 = trace_step st1 st2 w1 w2 d2 (epoch_is e2) x3 q2 ∙ ap (λ ys. noted st1 w1 d2 (epoch_is e2) ∷ ys) t3 in
       let t1 : trace G s st0 x1 ≡ y1 = trace_step st0 st1 w0 w1 d1 (epoch_is e1) x2 q1 ∙ ap (λ ys. noted st0 w0 d1 (epoch_is e1) ∷ ys) t2 in
       let t : history G s x1 ≡ y1 = ap (λ st. trace G s st x1) m ∙ t1 in
-      let opens : All (λ x. Opens G s (total_at G x.before.ledger.epoch y1) x) y1 =
-      subst (λ (ys : List (Entry C)). All (λ x. Opens G s (total_at G x.before.ledger.epoch ys) x) ys) t (law x1) in
+      let opens : AllByRecursion (λ x. Opens G s (total_at G x.before.ledger.epoch y1) x) y1 =
+      subst (λ (ys : List (Entry C)). AllByRecursion (λ x. Opens G s (total_at G x.before.ledger.epoch ys) x) ys) t (law x1) in
       let e = st5.ledger.epoch in
       let i1 : e1 ≡ st1.ledger.epoch = epoch_left st0 st1 w0 w1 (depositing k1) c1 e1 q1 in
       let i2 : e2 ≡ st2.ledger.epoch = epoch_left st1 st2 w1 w2 refreshing c2 e2 q2 in

@@ -1,4 +1,4 @@
-use Rattle.std.proofs.Common.{not, length, sym, ap, ◌∙◌}
+use Rattle.std.proofs.Common.{not, length, sym, ap}
 use Rattle.history.specs.Rules.{missing_at}
 use Rattle.algebra.proofs.Places.{place_found, place_next}
 use Rattle.custody.proofs.checks.first_missing.Goals as goal

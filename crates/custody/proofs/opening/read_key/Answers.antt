@@ -1,4 +1,4 @@
-use Rattle.std.proofs.Common.{true, false, length, arith}
+use Rattle.std.proofs.Common.{true, false, length}
 use Rattle.algebra.specs.Tuples.{nonzero_at}
 use Rattle.algebra.proofs.Places.{place_found, place_next}
 use Rattle.history.proofs.Telling.{nonzero_read, told_apart, told_key}

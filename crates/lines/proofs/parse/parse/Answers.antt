@@ -29,10 +29,10 @@ returns c =
       tells = complete c.args.line.now c.in-Some.letter (vec_items c.loop-start.fields) c.loop-start.start (omega arith) c.in-Some.ensures c.loop-start.invariant.1 (omega arith) (omega arith);
     }
 
-pub returns-in_err-push : goal.returns-in_err-push
-returns-in_err-push c =
+pub returns-in_err-push-in-Ok : goal.returns-in_err-push-in-Ok
+returns-in_err-push-in-Ok c =
     let exit = err_from_is_err_and c.from_residual.result c.from_residual.ensures.1 in
-    let told = c.in_err-push.ensures in
+    let told = c.in_err-push-in-Ok.ensures in
     let full : vec_capacity c.args.fields.now ≤ vec_len c.push.new.self =
     omega (arith, told.len, told.full) in
     record { memory = rw exit.1 full; back = reads_back; tells = rw exit.1 tt }

@@ -1,6 +1,6 @@
 -- Two histories that differ in their keys and masks are alike to whoever holds the shares of B.
 use Rattle.std.proofs.Common.{◌≡◌, ℕ, suc, ◌+◌, ◌-◌, ◌<◌, true, false, cond, T, List, [], ◌∷◌, length, Some, None, Option, sym, refl, ap, ◌∙◌, subst, ap₂}
-use Rattle.std.specs.List.{AllZip, AllByRecursion as All}
+use Rattle.std.specs.List.{AllZip, AllByRecursion}
 use Rattle.std.proofs.ByRecursion.{All-weaker}
 use Rattle.algebra.specs.Group.{GroupOps, GroupLaws}
 use Rattle.algebra.specs.Tuples.{tuple_zero, tuple_plus, tuple_less}
@@ -30,7 +30,7 @@ module _ {X : Type 0} where
   each_weaker R Q f (x ∷ xs) [] e = absurd e
   each_weaker R Q f (x ∷ xs) (y ∷ ys) e = (f x y e.0, each_weaker R Q f xs ys e.1)
 
-  each_with : (R : X → X → Type 0) (P Q : X → Type 0) (xs ys : List X) → AllZip R xs ys → All P xs → All Q ys → AllZip (λ x y. R x y × P x × Q y) xs ys
+  each_with : (R : X → X → Type 0) (P Q : X → Type 0) (xs ys : List X) → AllZip R xs ys → AllByRecursion P xs → AllByRecursion Q ys → AllZip (λ x y. R x y × P x × Q y) xs ys
   each_with R P Q [] [] e p q = tt
   each_with R P Q [] (y ∷ ys) e p q = absurd e
   each_with R P Q (x ∷ xs) [] e p q = absurd e
@@ -178,7 +178,7 @@ module _ {C : Type 0} (G : GroupOps C) (L : GroupLaws G) (s : Scheme) (B : List 
         let y : Request C = twin_of (keys 0) st x in
         last_ledger xs (λ i. keys (suc i)) (λ i. good (suc i)) (outcome G s st x).state (outcome G s other y).state (fine_after G L s st x j) (fine_after G L s other y k) (same_ledger (keys 0) (good 0) st other x j k e)
 
-    module _ (inside : All (InScheme s) B) (xs : List (Request C)) (keys : ℕ → C) (good : (i : ℕ) → T (G.valid (keys i)))
+    module _ (inside : AllByRecursion (InScheme s) B) (xs : List (Request C)) (keys : ℕ → C) (good : (i : ℕ) → T (G.valid (keys i)))
         (kept : Kept G s (history G s xs) (history G s (disguise G s B keys (history G s xs)))) where
       abbrev ys : List (Request C)
       ys = disguise G s B keys (history G s xs)
