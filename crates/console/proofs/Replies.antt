@@ -9,7 +9,7 @@ use Rattle.history.specs.Calls.{Call, Answer, answered}
 use Rattle.console.specs.declared.seat.Seat.{Seat}
 use Rattle.console.specs.declared.held.Held.{Held}
 use Rattle.console.specs.declared.held.Held.TheVariants.{Sums as HeldSums, Units as HeldUnits}
-use Rattle.console.specs.Seats.{Kept, kept_of, outcome, Called}
+use Rattle.console.specs.Seats.{Kept, kept_of, Called}
 use Rattle.console.specs.Requests.{reply, Replied}
 use Rattle.console.specs.Held.{holding, over_sums, over_units, sums_of, units_of, Answers}
 

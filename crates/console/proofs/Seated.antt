@@ -1,5 +1,5 @@
 -- Calls on a cabinet in memory of its own.
-use Rattle.std.proofs.Common.{◌≡◌, ℕ, ◌-◌, ◌*◌, List, [], ◌++◌, length, drop, replicate, Some, None, vec_items, vec_len, Option, Vec, sym, refl, ap, ◌∙◌, ap₂}
+use Rattle.std.proofs.Common.{◌≡◌, ℕ, ◌-◌, ◌*◌, List, [], length, drop, Some, None, vec_items, vec_len, Option, Vec, sym, ap, ◌∙◌, ap₂}
 use Rattle.std.proofs.lemmas.List.{take_at}
 use Rattle.std.specs.Vec.{with_items}
 use Rattle.algebra.specs.Group.{GroupOps}
@@ -13,7 +13,7 @@ use Rattle.custody.specs.declared.cabinet.Cabinet.{Cabinet}
 use Rattle.custody.specs.States.{state_of, SameCabinet}
 use Rattle.history.specs.declared.ledger.Ledger.{Ledger}
 use Rattle.history.specs.Ledgers.{fresh}
-use Rattle.console.specs.Seats.{Kept, moved, Called, New}
+use Rattle.console.specs.Seats.{Kept, Called, New}
 
 -- memory that was lent whole holds what was written
 pub refilled_items : {Z : Type 0} (v : Vec ℕ Z) (ws : List ℕ) → length ws ≡ vec_len v → vec_items (with_items v ws) ≡ ws

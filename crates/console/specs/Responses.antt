@@ -1,5 +1,5 @@
 -- What the console answers to a line, and what it holds then.
-use Rattle.std.specs.Prelude.{◌≡◌, ℕ, ◌≤◌, cond, ◌⊎◌, List, [], ◌∷◌, Some, None, Ok, Err, Option, Result, ◌==◌, ◌≢◌, slice_index}
+use Rattle.std.specs.Prelude.{◌≡◌, ℕ, ◌≤◌, cond, ◌⊎◌, List, Some, None, Ok, Err, Option, Result, ◌==◌, ◌≢◌, slice_index}
 use Rattle.lines.specs.declared.letter.Letter.{Letter}
 use Rattle.lines.specs.declared.letter.Letter.TheVariants.{Make, Deposit, Withdraw, Refresh, Revoke, Repair, Open}
 use Rattle.lines.specs.declared.fault.LineFault.TheVariants.{Unreadable}
@@ -7,7 +7,6 @@ use Rattle.lines.specs.declared.answer.Answer.{Answer}
 use Rattle.lines.specs.declared.answer.Answer.TheVariants.{Number, Refused}
 use Rattle.lines.specs.Letters.{sign}
 use Rattle.lines.specs.Lines.{Read, good, bad, first_letter, read_line}
-use Rattle.groups.specs.declared.fault.GroupFault.{GroupFault}
 use Rattle.groups.specs.declared.fault.GroupFault.TheVariants.{Modulus}
 use Rattle.sharing.specs.declared.fault.CabinetFault.{CabinetFault}
 use Rattle.sharing.specs.declared.fault.CabinetFault.TheVariants.{Scheme as NoScheme}
@@ -17,7 +16,7 @@ use Rattle.history.specs.Calls.{Call}
 use Rattle.console.specs.declared.fault.ConsoleFault.{ConsoleFault}
 use Rattle.console.specs.declared.fault.ConsoleFault.TheVariants.{Line, NoCabinet, CabinetExists, Group, Cabinet}
 use Rattle.console.specs.Faults.{refusal}
-use Rattle.console.specs.Seats.{Kept, New}
+use Rattle.console.specs.Seats.{New}
 use Rattle.console.specs.Requests.{call_of}
 use Rattle.console.specs.Held.{Holding, over_sums, over_units, sums_of, units_of, Answers}
 
