@@ -66,41 +66,41 @@ module _ {C : Type 0} (G : GroupOps C) where
   pub zero_at : (n i : ℕ) (v : C) → i < n → v ≡ G.zero → v ≡ get_or (tuple_zero G n) i v
   zero_at n i v h e = e ∙ sym (get_or-replicate n i G.zero v h)
 
-  pub getD_plus : (xs ys : List C) (i : ℕ) (d : C) → i < length xs → i < length ys → get_or (tuple_plus G xs ys) i d ≡ G.plus (get_or xs i d) (get_or ys i d)
-  getD_plus [] ys i d h k = absurd (not-suc-le-zero h)
-  getD_plus (x ∷ xs) [] i d h k = absurd (not-suc-le-zero k)
-  getD_plus (x ∷ xs) (y ∷ ys) zero d h k = refl
-  getD_plus (x ∷ xs) (y ∷ ys) (suc i) d h k = getD_plus xs ys i d (le_of_suc-le-suc h) (le_of_suc-le-suc k)
+  pub get_or_plus : (xs ys : List C) (i : ℕ) (d : C) → i < length xs → i < length ys → get_or (tuple_plus G xs ys) i d ≡ G.plus (get_or xs i d) (get_or ys i d)
+  get_or_plus [] ys i d h k = absurd (not-suc-le-zero h)
+  get_or_plus (x ∷ xs) [] i d h k = absurd (not-suc-le-zero k)
+  get_or_plus (x ∷ xs) (y ∷ ys) zero d h k = refl
+  get_or_plus (x ∷ xs) (y ∷ ys) (suc i) d h k = get_or_plus xs ys i d (le_of_suc-le-suc h) (le_of_suc-le-suc k)
 
-  pub getD_minus : (xs : List C) (i : ℕ) (d : C) → i < length xs → get_or (tuple_minus G xs) i d ≡ G.minus (get_or xs i d)
-  getD_minus [] i d h = absurd (not-suc-le-zero h)
-  getD_minus (x ∷ xs) zero d h = refl
-  getD_minus (x ∷ xs) (suc i) d h = getD_minus xs i d (le_of_suc-le-suc h)
+  pub get_or_minus : (xs : List C) (i : ℕ) (d : C) → i < length xs → get_or (tuple_minus G xs) i d ≡ G.minus (get_or xs i d)
+  get_or_minus [] i d h = absurd (not-suc-le-zero h)
+  get_or_minus (x ∷ xs) zero d h = refl
+  get_or_minus (x ∷ xs) (suc i) d h = get_or_minus xs i d (le_of_suc-le-suc h)
 
-  pub get_d_moved : (c a : C) (xs : List C) (i : ℕ) (d : C) → i < length xs → get_or (moved G c a xs) i d ≡ G.plus (get_or (a ∷ xs) i d) (G.minus c)
-  get_d_moved c a [] i d h = absurd (not-suc-le-zero h)
-  get_d_moved c a (y ∷ ys) zero d h = refl
-  get_d_moved c a (y ∷ ys) (suc i) d h = get_d_moved c y ys i d (le_of_suc-le-suc h)
+  pub get_or_moved : (c a : C) (xs : List C) (i : ℕ) (d : C) → i < length xs → get_or (moved G c a xs) i d ≡ G.plus (get_or (a ∷ xs) i d) (G.minus c)
+  get_or_moved c a [] i d h = absurd (not-suc-le-zero h)
+  get_or_moved c a (y ∷ ys) zero d h = refl
+  get_or_moved c a (y ∷ ys) (suc i) d h = get_or_moved c y ys i d (le_of_suc-le-suc h)
 
-  pub getD_last : (x : C) (xs : List C) (d : C) → get_or (x ∷ xs) (length xs) d ≡ last x xs
-  getD_last x [] d = refl
-  getD_last x (y ∷ ys) d = getD_last y ys d
+  pub get_or_last : (x : C) (xs : List C) (d : C) → get_or (x ∷ xs) (length xs) d ≡ last x xs
+  get_or_last x [] d = refl
+  get_or_last x (y ∷ ys) d = get_or_last y ys d
 
   -- at elements that were read
   pub plus_at : (xs ys : List C) (i : ℕ) (x y v : C) → i < length xs → i < length ys → x ≡ get_or xs i x → y ≡ get_or ys i y → v ≡ G.plus x y → v ≡ get_or (tuple_plus G xs ys) i v
   plus_at xs ys i x y v h k p q e =
       let p' : x ≡ get_or xs i v = get_or_read xs i x h p v in
       let q' : y ≡ get_or ys i v = get_or_read ys i y k q v in
-      e ∙ ap (λ (z : C). G.plus z y) p' ∙ ap (G.plus (get_or xs i v)) q' ∙ sym (getD_plus xs ys i v h k)
+      e ∙ ap (λ (z : C). G.plus z y) p' ∙ ap (G.plus (get_or xs i v)) q' ∙ sym (get_or_plus xs ys i v h k)
 
   pub minus_at : (xs : List C) (i : ℕ) (x v : C) → i < length xs → x ≡ get_or xs i x → v ≡ G.minus x → v ≡ get_or (tuple_minus G xs) i v
-  minus_at xs i x v h p e = e ∙ ap G.minus (get_or_read xs i x h p v) ∙ sym (getD_minus xs i v h)
+  minus_at xs i x v h p e = e ∙ ap G.minus (get_or_read xs i x h p v) ∙ sym (get_or_minus xs i v h)
 
   pub times_first : (xs : List C) (e v : C) → 0 < length xs → e ≡ get_or xs (length xs - 1) e → v ≡ G.minus e → v ≡ get_or (times_x G xs) 0 v
   times_first [] e v h p q = absurd (not-suc-le-zero h)
   times_first (x ∷ xs) e v h p q =
       let n : suc (length xs) - 1 ≡ length xs = omega arith in
-      q ∙ ap G.minus (p ∙ ap (λ (k : ℕ). get_or (x ∷ xs) k e) n ∙ getD_last x xs e)
+      q ∙ ap G.minus (p ∙ ap (λ (k : ℕ). get_or (x ∷ xs) k e) n ∙ get_or_last x xs e)
 
   pub times_next : (xs : List C) (i : ℕ) (e a v : C) → 1 ≤ i → i < length xs → e ≡ get_or xs (length xs - 1) e → a ≡ get_or xs (i - 1) a → v ≡ G.plus a (G.minus e) → v ≡ get_or (times_x G xs) i v
   times_next [] i e a v l h p q r = absurd (not-suc-le-zero h)
@@ -109,6 +109,6 @@ module _ {C : Type 0} (G : GroupOps C) where
       let n : suc (length xs) - 1 ≡ length xs = omega arith in
       let j : suc i - 1 ≡ i = omega arith in
       let k : i < suc (length xs) = omega arith in
-      let e' : e ≡ last x xs = p ∙ ap (λ (k : ℕ). get_or (x ∷ xs) k e) n ∙ getD_last x xs e in
+      let e' : e ≡ last x xs = p ∙ ap (λ (k : ℕ). get_or (x ∷ xs) k e) n ∙ get_or_last x xs e in
       let a' : a ≡ get_or (x ∷ xs) i v = q ∙ ap (λ (k : ℕ). get_or (x ∷ xs) k a) j ∙ get_or_default (x ∷ xs) i a v k in
-      r ∙ ap (λ (z : C). G.plus z (G.minus e)) a' ∙ ap (λ (z : C). G.plus (get_or (x ∷ xs) i v) (G.minus z)) e' ∙ sym (get_d_moved (last x xs) x xs i v (le_of_suc-le-suc h))
+      r ∙ ap (λ (z : C). G.plus z (G.minus e)) a' ∙ ap (λ (z : C). G.plus (get_or (x ∷ xs) i v) (G.minus z)) e' ∙ sym (get_or_moved (last x xs) x xs i v (le_of_suc-le-suc h))

@@ -43,12 +43,12 @@ module _ {X : Type 0} where
   length_rows w zero xs = refl
   length_rows w (suc n) xs = ap suc (length_rows w n (drop w xs))
 
-  pub get_d_rows : (w n h : ℕ) (xs d : List X) → h < n → get_or (rows w n xs) h d ≡ row_at w h xs
-  get_d_rows w zero h xs d l = absurd (not-suc-le-zero l)
-  get_d_rows w (suc n) zero xs d l = ap (λ (k : ℕ). take w (drop k xs)) (sym (zero-mul w))
-  get_d_rows w (suc n) (suc h) xs d l =
+  pub get_or_rows : (w n h : ℕ) (xs d : List X) → h < n → get_or (rows w n xs) h d ≡ row_at w h xs
+  get_or_rows w zero h xs d l = absurd (not-suc-le-zero l)
+  get_or_rows w (suc n) zero xs d l = ap (λ (k : ℕ). take w (drop k xs)) (sym (zero-mul w))
+  get_or_rows w (suc n) (suc h) xs d l =
       let e : w + h * w ≡ suc h * w = omega (arith, suc-mul h w) in
-      get_d_rows w n h (drop w xs) d (le_of_suc-le-suc l) ∙ ap (take w) (drop-drop (h * w) w xs) ∙ ap (λ (k : ℕ). take w (drop k xs)) e
+      get_or_rows w n h (drop w xs) d (le_of_suc-le-suc l) ∙ ap (take w) (drop-drop (h * w) w xs) ∙ ap (λ (k : ℕ). take w (drop k xs)) e
 
 module _ {X : Type 0} where
   pub put_own : (w h : ℕ) (xs : List X) → put_row w h (row_at w h xs) xs ≡ xs

@@ -3,7 +3,7 @@ ghost use Rattle.groups.specs.Forms.{number_form};
 ghost use Rattle.groups.specs.Sums.{sums, InRange};
 ghost use Rattle.groups.specs.declared.fault.GroupFault.TheVariants.{Modulus};
 ghost use Rattle.groups.specs.Modulo.{sums_laws};
-ghost use Rattle.std.proofs.Common.{rules, arith};
+ghost use Rattle.std.proofs.Common.{rules};
 
 use crate::bytes::{read_number, write_number};
 use crate::encoded::{EncodedGroup, ShortGroup};
@@ -75,7 +75,7 @@ impl Group for Sums {
 impl EncodedGroup for Sums {
     ghost form = { λ g. number_form 2 g.modulus };
 
-    ghost encoded = { first_of (Prim.search rules, Prim.grind (arith, Self.row.coded.inj)) };
+    ghost encoded = { Prim.search rules };
 
     fn id(&self) -> u8 {
         2
@@ -103,5 +103,5 @@ impl EncodedGroup for Sums {
 }
 
 impl ShortGroup for Sums {
-    ghost short = { first_of (Prim.search rules, Prim.grind (arith, Self.row.coded.inj)) };
+    ghost short = { Prim.search rules };
 }

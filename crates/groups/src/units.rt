@@ -99,7 +99,7 @@ impl Group for Units {
 impl EncodedGroup for Units {
     ghost form = { λ g. number_form 3 g.modulus };
 
-    ghost encoded = { first_of (Prim.search rules, Prim.grind (arith, Self.row.coded.inj)) };
+    ghost encoded = { Prim.search rules };
 
     fn id(&self) -> u8 {
         3
@@ -127,5 +127,5 @@ impl EncodedGroup for Units {
 }
 
 impl ShortGroup for Units {
-    ghost short = { first_of (Prim.search rules, Prim.grind (arith, Self.row.coded.inj)) };
+    ghost short = { Prim.search rules };
 }

@@ -7,7 +7,7 @@ use Rattle.algebra.specs.Tuples.{all_valid, tuple_minus}
 use Rattle.algebra.specs.Valid.{append_valid, plus_tuple_valid, minus_tuple_valid, length_plus, length_minus}
 use Rattle.algebra.specs.Rows.{rows, row_at, put_row, flat}
 use Rattle.algebra.proofs.Places.{take_step, drop_step, take_end, read_left}
-use Rattle.algebra.proofs.RowLists.{take_valid, drop_valid, part_valid, length_rows, get_d_rows, row_end, rows_put, flat_rows, put_own}
+use Rattle.algebra.proofs.RowLists.{take_valid, drop_valid, part_valid, length_rows, get_or_rows, row_end, rows_put, flat_rows, put_own}
 use Rattle.sharing.specs.declared.shares.Change.{Change}
 use Rattle.sharing.specs.declared.shares.Change.TheVariants.{Add, Subtract}
 use Rattle.sharing.specs.Shares.{changed}
@@ -94,7 +94,7 @@ module _ {C : Type 0} (G : GroupOps C) (L : GroupLaws G) (d : Change) where
         let hx : h < length rs = omega (arith, length_rows w n xs) in
         let h0 : h < length rs₀ = omega (arith, length_rows w n xs₀) in
         let hr : h < length R = omega (arith, length_shared G d f 1 hs rs₀) in
-        let old : x ≡ get_or rs₀ h x = read_left rs rs₀ h x inv.1 (sym (get_d_rows w n h xs x l)) in
+        let old : x ≡ get_or rs₀ h x = read_left rs rs₀ h x inv.1 (sym (get_or_rows w n h xs x l)) in
         let new : v ≡ get_or R h v =
         ap (credited G d b (f (h + 1))) old ∙ ap (λ (z : Bool). credited G d z (f (h + 1)) (get_or rs₀ h x)) be
         ∙ sym (shared_at G d f 1 h hs rs₀ x h0) ∙ get_or_default R h x v hr in (

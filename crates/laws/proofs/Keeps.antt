@@ -20,7 +20,7 @@ use Rattle.algebra.proofs.Polynomials.{length_join}
 use Rattle.algebra.proofs.Theorems.{sharing}
 use Rattle.algebra.proofs.Lagrange.{all_both}
 use Rattle.algebra.proofs.PrimeNumbers.{inverts}
-use Rattle.algebra.proofs.RowLists.{length_rows, get_d_rows}
+use Rattle.algebra.proofs.RowLists.{length_rows, get_or_rows}
 use Rattle.algebra.proofs.Dealings.{rows_ok, embedded_ok, dealt_ok, tuple_at_ok}
 use Rattle.sharing.specs.declared.fault.CabinetFault.{CabinetFault}
 use Rattle.sharing.specs.declared.scheme.Scheme.{Scheme}
@@ -56,14 +56,14 @@ module _ {C : Type 0} (G : GroupOps C) where
   length_shared d f i [] (r ∷ rs) = refl
   length_shared d f i (h ∷ hs) (r ∷ rs) = ap suc (length_shared d f (i + 1) hs rs)
 
-  getD_shared : (d : Change) (f : ℕ → List C) (i : ℕ) (hs : List Holder) (rs : List (List C)) (k : ℕ) → k < length rs
+  get_or_shared : (d : Change) (f : ℕ → List C) (i : ℕ) (hs : List Holder) (rs : List (List C)) (k : ℕ) → k < length rs
       → get_or (shared_out G d f i hs rs) k [] ≡ credited G d (there hs k) (f (i + k)) (get_or rs k [])
-  getD_shared d f i hs [] k l = absurd (omega arith)
-  getD_shared d f i [] (r ∷ rs) k l = refl
-  getD_shared d f i (h ∷ hs) (r ∷ rs) zero l = let e : i ≡ i + 0 = omega arith in ap (λ j. credited G d h.present (f j) r) e
-  getD_shared d f i (h ∷ hs) (r ∷ rs) (suc k) l =
+  get_or_shared d f i hs [] k l = absurd (omega arith)
+  get_or_shared d f i [] (r ∷ rs) k l = refl
+  get_or_shared d f i (h ∷ hs) (r ∷ rs) zero l = let e : i ≡ i + 0 = omega arith in ap (λ j. credited G d h.present (f j) r) e
+  get_or_shared d f i (h ∷ hs) (r ∷ rs) (suc k) l =
       let e : i + 1 + k ≡ i + suc k = omega arith in
-      getD_shared d f (i + 1) hs rs k (omega arith) ∙ ap (λ j. credited G d (there hs k) (f j) (get_or rs k [])) e
+      get_or_shared d f (i + 1) hs rs k (omega arith) ∙ ap (λ j. credited G d (there hs k) (f j) (get_or rs k [])) e
 
 module _ {C : Type 0} (G : GroupOps C) (L : GroupLaws G) (w : ℕ) where
   credited_ok : (d : Change) (b : Bool) (ys r : List C) → T (ok G w ys) → T (ok G w r) → T (ok G w (credited G d b ys r))
@@ -123,14 +123,14 @@ module _ {C : Type 0} (G : GroupOps C) (L : GroupLaws G) (s : Scheme) where
   grown d cs P = join O P (signed G L (s.q - 1) (direction d) (poly_of G L (s.q - 1) (key_of G d) (s.t - 1) cs))
 
   -- the share of the holder at the place i is the value of P, or zeros where it is missing
-  abbrev pub Row_is : List Holder → List C → Poly → ℕ → Type 0
-  Row_is hs shares P i = row_at (s.q - 1) i shares ≡ cond (there hs i) (value O P (point (suc i))).0 (tuple_zero G (s.q - 1))
+  abbrev pub RowIs : List Holder → List C → Poly → ℕ → Type 0
+  RowIs hs shares P i = row_at (s.q - 1) i shares ≡ cond (there hs i) (value O P (point (suc i))).0 (tuple_zero G (s.q - 1))
 
   -- P is the polynomial of the state st
   pub record Shared (st : State C) (P : Poly) : Type 0 where
     pub sound : Sound G L s st
     pub short : length P ≤ s.t
-    pub each : (i : ℕ) → i < s.n → Row_is st.ledger.holders st.shares P i
+    pub each : (i : ℕ) → i < s.n → RowIs st.ledger.holders st.shares P i
 
   -- k is the key that P shares
   pub record Worth (P : Poly) (k : C) : Type 0 where
@@ -211,8 +211,8 @@ module _ {C : Type 0} (G : GroupOps C) (L : GroupLaws G) (s : Scheme) where
         → row_at (s.q - 1) i (flat (dealt_rows st)) ≡ credited G (direction d) (there st.ledger.holders i) (share_for (1 + i)) (row_at (s.q - 1) i st.shares)
     dealt_row st o i l =
         row_flat G (s.q - 1) (dealt_rows st) (rows_are_ok st o) i (omega (arith, all_rows st))
-        ∙ getD_shared G (direction d) share_for 1 st.ledger.holders (rows (s.q - 1) s.n st.shares) i (omega (arith, length_rows (s.q - 1) s.n st.shares))
-        ∙ ap (credited G (direction d) (there st.ledger.holders i) (share_for (1 + i))) (get_d_rows (s.q - 1) s.n i st.shares [] l)
+        ∙ get_or_shared G (direction d) share_for 1 st.ledger.holders (rows (s.q - 1) s.n st.shares) i (omega (arith, length_rows (s.q - 1) s.n st.shares))
+        ∙ ap (credited G (direction d) (there st.ledger.holders i) (share_for (1 + i))) (get_or_rows (s.q - 1) s.n i st.shares [] l)
 
     pub deals_on : (st : State C) (P : Poly) → Shared st P → Shared (accepted G s st [] (dealing d cs)).state (grown d cs P)
     deals_on st P j = record {
@@ -250,15 +250,15 @@ module _ {C : Type 0} (G : GroupOps C) (L : GroupLaws G) (s : Scheme) where
       inside : h - 1 < length st.ledger.holders
       inside = omega (arith, k.0, k.1, s.allowed, j.sound.table)
 
-      here : Row_is (set st.ledger.holders (h - 1) (holder b st.ledger.epoch)) (put_row (s.q - 1) (h - 1) ys st.shares) P (h - 1)
+      here : RowIs (set st.ledger.holders (h - 1) (holder b st.ledger.epoch)) (put_row (s.q - 1) (h - 1) ys st.shares) P (h - 1)
       here =
           let n : h ≡ suc (h - 1) = omega (arith, k.0) in
           row_put_same (s.q - 1) s.n (h - 1) ys st.shares low (ok_length G (s.q - 1) ys o) j.sound.size ∙ e
           ∙ ap (λ i. cond b (value O P (point i)).0 (tuple_zero G (s.q - 1))) n
           ∙ ap (λ (x : Holder). cond x.present (value O P (point (suc (h - 1)))).0 (tuple_zero G (s.q - 1))) (sym (get_or-set_same st.ledger.holders (h - 1) (holder b st.ledger.epoch) (holder false 0) inside))
 
-      go : (i : ℕ) → i < s.n → (i ≡ h - 1) ⊎ (i ≡ h - 1 → ⊥) → Row_is (set st.ledger.holders (h - 1) (holder b st.ledger.epoch)) (put_row (s.q - 1) (h - 1) ys st.shares) P i
-      go i l (inl f) = subst (Row_is (set st.ledger.holders (h - 1) (holder b st.ledger.epoch)) (put_row (s.q - 1) (h - 1) ys st.shares) P) (sym f) here
+      go : (i : ℕ) → i < s.n → (i ≡ h - 1) ⊎ (i ≡ h - 1 → ⊥) → RowIs (set st.ledger.holders (h - 1) (holder b st.ledger.epoch)) (put_row (s.q - 1) (h - 1) ys st.shares) P i
+      go i l (inl f) = subst (RowIs (set st.ledger.holders (h - 1) (holder b st.ledger.epoch)) (put_row (s.q - 1) (h - 1) ys st.shares) P) (sym f) here
       go i l (inr f) =
           row_put_other (s.q - 1) s.n i (h - 1) ys st.shares l low f (ok_length G (s.q - 1) ys o) j.sound.size ∙ j.each i l
           ∙ ap (λ (x : Holder). cond x.present (value O P (point (suc i))).0 (tuple_zero G (s.q - 1))) (sym (get_or-set_other st.ledger.holders (h - 1) i (holder b st.ledger.epoch) (holder false 0) f))

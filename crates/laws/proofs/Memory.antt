@@ -8,7 +8,7 @@ use Rattle.algebra.specs.Tuples.{all_valid, ok}
 use Rattle.algebra.specs.Valid.{append_valid}
 use Rattle.algebra.specs.Space.{ok_length, ok_valid}
 use Rattle.algebra.specs.Rows.{rows, row_at, put_row, flat}
-use Rattle.algebra.proofs.RowLists.{get_d_rows, rows_put, length_rows, row_end, take_valid, drop_valid}
+use Rattle.algebra.proofs.RowLists.{get_or_rows, rows_put, length_rows, row_end, take_valid, drop_valid}
 
 module _ {X : Type 0} (w : ℕ) where
   pub rows_flat : (rs : List (List X)) → AllByRecursion (λ r. length r ≡ w) rs → rows w (length rs) (flat rs) ≡ rs
@@ -21,13 +21,13 @@ module _ {X : Type 0} (w : ℕ) where
   length_flat (r ∷ rs) h = omega (arith, length-append r (flat rs), length_flat rs h.1, h.0, suc-mul (length rs) w)
 
   row_put : (n i j : ℕ) (ys xs : List X) → i < n → j < n → length ys ≡ w → length xs ≡ n * w → row_at w i (put_row w j ys xs) ≡ get_or (set (rows w n xs) j ys) i []
-  row_put n i j ys xs k l e f = sym (get_d_rows w n i _ [] k) ∙ ap (λ r. get_or r i []) (rows_put w n j ys xs l e (omega arith))
+  row_put n i j ys xs k l e f = sym (get_or_rows w n i _ [] k) ∙ ap (λ r. get_or r i []) (rows_put w n j ys xs l e (omega arith))
 
   pub row_put_same : (n j : ℕ) (ys xs : List X) → j < n → length ys ≡ w → length xs ≡ n * w → row_at w j (put_row w j ys xs) ≡ ys
   row_put_same n j ys xs l e f = row_put n j j ys xs l l e f ∙ get_or-set_same (rows w n xs) j ys [] (omega (arith, length_rows w n xs))
 
   pub row_put_other : (n i j : ℕ) (ys xs : List X) → i < n → j < n → (i ≡ j → ⊥) → length ys ≡ w → length xs ≡ n * w → row_at w i (put_row w j ys xs) ≡ row_at w i xs
-  row_put_other n i j ys xs k l d e f = row_put n i j ys xs k l e f ∙ get_or-set_other (rows w n xs) j i ys [] d ∙ get_d_rows w n i xs [] k
+  row_put_other n i j ys xs k l d e f = row_put n i j ys xs k l e f ∙ get_or-set_other (rows w n xs) j i ys [] d ∙ get_or_rows w n i xs [] k
 
   pub length_put : (n j : ℕ) (ys xs : List X) → j < n → length ys ≡ w → length xs ≡ n * w → length (put_row w j ys xs) ≡ n * w
   length_put n j ys xs l e f =
@@ -49,7 +49,7 @@ module _ {C : Type 0} (G : GroupOps C) (w : ℕ) where
   flat_rows_are rs h = rows_flat w rs (all_lengths rs h)
 
   pub row_flat : (rs : List (List C)) → AllByRecursion (λ r. T (ok G w r)) rs → (i : ℕ) → i < length rs → row_at w i (flat rs) ≡ get_or rs i []
-  row_flat rs h i l = sym (get_d_rows w (length rs) i (flat rs) [] l) ∙ ap (λ r. get_or r i []) (flat_rows_are rs h)
+  row_flat rs h i l = sym (get_or_rows w (length rs) i (flat rs) [] l) ∙ ap (λ r. get_or r i []) (flat_rows_are rs h)
 
   pub flat_long : (rs : List (List C)) → AllByRecursion (λ r. T (ok G w r)) rs → length (flat rs) ≡ length rs * w
   flat_long rs h = length_flat w rs (all_lengths rs h)

@@ -8,7 +8,7 @@ use Rattle.algebra.specs.Scalars.{act, point, geometric}
 use Rattle.algebra.specs.Sharing.{value}
 use Rattle.algebra.specs.Rows.{rows}
 use Rattle.algebra.specs.Dealing.{embedded, dealt}
-use Rattle.algebra.proofs.RowLists.{part_row, part_valid, length_rows, get_d_rows}
+use Rattle.algebra.proofs.RowLists.{part_row, part_valid, length_rows, get_or_rows}
 use Rattle.algebra.proofs.Dealings.{geometric_point, dealt_value}
 use Rattle.sharing.proofs.Acting.{as_valid, act_valid}
 
@@ -53,7 +53,7 @@ module _ {C : Type 0} (G : GroupOps C) (L : GroupLaws G) where
         let kr : j - 1 < length rs = omega (arith, length_rows w n cs) in
         let s : j - 1 + 1 ≡ j = omega arith in
         let d : drop (j - 1) rs ≡ get_or rs (j - 1) [] ∷ drop j rs = drop_more rs (j - 1) [] kr ∙ ap (λ (a : ℕ). get_or rs (j - 1) [] ∷ drop a rs) s in
-        let r : row ≡ get_or rs (j - 1) [] = part_row w ((j - 1) * w) cs ∙ sym (get_d_rows w n (j - 1) cs [] k) in
+        let r : row ≡ get_or rs (j - 1) [] = part_row w ((j - 1) * w) cs ∙ sym (get_or_rows w n (j - 1) cs [] k) in
         let t : after ≡ tuple_plus G row (act (list_ops G (length out)) (point i) out) = e vr inv.1 in (
           t ∙ ap (λ (v : ℕ). tuple_plus G row (act (list_ops G v) (point i) out)) lo
               ∙ ap₂ (λ (a b : List C). tuple_plus G a (act (list_ops G w) (point i) b)) r inv.0
