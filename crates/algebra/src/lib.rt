@@ -1,11 +1,14 @@
 // The mathematics behind the shares, as theory: this crate's work is in specs/ and proofs/.
 #![tactic(auto)]
 
+ghost use Rattle.std.specs.Prelude.{◌≡◌};
 ghost use Rattle.algebra.specs.Theorems.{Stands};
 
-// Sharing over any module with the cycle law: units, interpolation and covers. The contract is the theorem.
+// Sharing over any module with the cycle law: units, interpolation and covers. The contract is the theorem; the answer is 0 and
+// says nothing.
 pub fn sharing_stands<M>() -> u8
-    ensures { Stands M }
+    ensures theorem { Stands M }
+    ensures answer { result ≡ 0 }
 {
     0
 }

@@ -23,7 +23,7 @@ impl Group for Blocks {
         true
     }
 
-    // Looks at all bytes, also after two that differ: sixteen at once, and no sooner for a near miss.
+    // Compares all bytes, also after two that differ, so that a compiler can compare them at once.
     fn same(&self, a: [u8; 16], b: [u8; 16]) -> bool {
         let mut same = true;
         for i in 0..16 {

@@ -1,5 +1,5 @@
 use Rattle.algebra.proofs.Theorems.{stands}
 use Rattle.algebra.proofs.sharing_stands.Goals as goal
 
-pub returns : goal.returns
-returns g c = stands
+pub returns-clause-theorem : goal.returns-clause-theorem
+returns-clause-theorem g c = stands

@@ -1,15 +1,8 @@
-use Rattle.std.proofs.Common.{◌≡◌, ℕ, ◌+◌, ◌<◌, Bool, true, false, ◌&&◌, eqb, List, length, get_or, drop, sym, refl, ap, ◌∙◌, ap₂, arith, rules}
+use Rattle.std.proofs.Common.{◌≡◌, ℕ, ◌+◌, ◌<◌, Bool, true, ◌&&◌, eqb, List, length, get_or, drop, sym, ap, ◌∙◌, ap₂, arith, rules}
+use Rattle.std.proofs.Math.Bool.{and-true, and_assoc}
 use Rattle.std.specs.Str.{bytes_eq}
 use Rattle.std.proofs.lemmas.List.{drop_more, drop_all}
 use Rattle.groups.proofs.blocks.BlocksGroup.same.Goals as goal
-
-regroup : (a b c : Bool) → ((a && b) && c) ≡ (a && (b && c))
-regroup true b c = refl
-regroup false b c = refl
-
-and_true : (a : Bool) → a ≡ (a && true)
-and_true true = refl
-and_true false = refl
 
 -- the bytes at i, and those after them
 next : (xs ys : List ℕ) (i : ℕ) → i < length xs → i < length ys → bytes_eq (drop i xs) (drop i ys) ≡ (eqb (get_or xs i 0) (get_or ys i 0) && bytes_eq (drop (i + 1) xs) (drop (i + 1) ys))
@@ -22,7 +15,7 @@ loop-i-preserved c =
     let i = c.loop-i.i in
     let nx : length xs ≡ 16 = search rules in
     let ny : length ys ≡ 16 = search rules in
-    regroup c.loop-i.same (eqb (get_or xs i 0) (get_or ys i 0)) (bytes_eq (drop (i + 1) xs) (drop (i + 1) ys))
+    and_assoc c.loop-i.same (eqb (get_or xs i 0) (get_or ys i 0)) (bytes_eq (drop (i + 1) xs) (drop (i + 1) ys))
     ∙ ap (λ (b : Bool). c.loop-i.same && b) (sym (next xs ys i (omega arith) (omega arith))) ∙ c.loop-i.invariant
 
 pub returns : goal.returns
@@ -33,4 +26,4 @@ returns c p q =
     let nx : length xs ≡ 16 = search rules in
     let ny : length ys ≡ 16 = search rules in
     let none : bytes_eq (drop i xs) (drop i ys) ≡ true = ap₂ bytes_eq (drop_all i xs (omega arith)) (drop_all i ys (omega arith)) in
-    and_true c.loop-i.same ∙ ap (λ (b : Bool). c.loop-i.same && b) (sym none) ∙ c.loop-i.invariant
+    sym (and-true c.loop-i.same) ∙ ap (λ (b : Bool). c.loop-i.same && b) (sym none) ∙ c.loop-i.invariant
