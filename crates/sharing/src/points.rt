@@ -6,7 +6,7 @@ ghost use Rattle.algebra.specs.Sharing.{difference, inverse, factor};
 ghost use Rattle.algebra.specs.Tuples.{all_valid, list_ops};
 ghost use Rattle.algebra.specs.Turns.{turned_from};
 
-use crate::tuples::{add_into, fill_zero, negate};
+use crate::tuples::{add_into, fill_zero, negate, write_each};
 use groups::group::Group;
 
 // What comes to the place i where `m` and one zero after it make a turn by k places.
@@ -26,9 +26,7 @@ pub(crate) fn mul_power<G: Group>(g: &G, k: usize, m: &mut [G::Element], tmp: &m
     ensures { T (all_valid (G.ops g.now) m.old) → m.new ≡ act (list_ops (G.ops g.now) (length m.old)) (power k) m.old }
 {
     let back = g.negative(turned(g, k, m, m.len()));
-    for i in 0..m.len() {
-        tmp[i] = g.sum(turned(g, k, m, i), back);
-    }
+    write_each(tmp, |i, _| g.sum(turned(g, k, m, i), back));
     m.copy_from_slice(tmp);
 }
 
