@@ -11,3 +11,4 @@ pub mod FirstPlaces
 pub mod Filling
 pub mod PrimeSearch
 pub mod Writing
+pub mod Backward
