@@ -3,7 +3,7 @@ ghost use Rattle.groups.specs.Forms.{block_form};
 ghost use Rattle.groups.specs.Xors.{blocks_laws};
 ghost use Rattle.std.proofs.Common.{rules};
 
-use crate::bytes::write_whole;
+use crate::bytes::{read_array, write_whole};
 use crate::encoded::{EncodedGroup, ShortGroup};
 use crate::fault::GroupFault;
 use crate::group::Group;
@@ -71,10 +71,7 @@ impl EncodedGroup for Blocks {
     }
 
     fn read(&self, bytes: &[u8]) -> Result<[u8; 16], GroupFault> {
-        match <[u8; 16]>::try_from(bytes) {
-            Ok(block) => Ok(block),
-            Err(_) => Err(GroupFault::Encoding),
-        }
+        read_array(bytes)
     }
 }
 
