@@ -1,6 +1,6 @@
-use Rattle.std.proofs.Common.{arith}
+use Rattle.std.proofs.Common.{rules}
 use Rattle.groups.specs.Multiples.{gives_negative}
 use Rattle.groups.proofs.units.UnitsGroup.negative.Goals as goal
 
 pub returns : goal.returns
-returns c = grind (arith, gives_negative)
+returns c = search (rules, gives_negative)
