@@ -22,7 +22,7 @@ pub(crate) fn write_number(a: u32, out: &mut [u8]) -> Result<(), GroupFault>
     write_whole(&a.to_be_bytes(), out)
 }
 
-// The bytes of a slice of just N.
+// Reads an array from a slice of its length, and refuses any other.
 pub(crate) fn read_array<const N: usize>(bytes: &[u8]) -> Result<[u8; N], GroupFault>
     ensures { MatchResult result (λ a. (length bytes.now ≡ N) × (a ≡ bytes.now)) (λ e. (length bytes.now ≢ N) × (e ≡ Encoding)) }
 {
@@ -32,11 +32,11 @@ pub(crate) fn read_array<const N: usize>(bytes: &[u8]) -> Result<[u8; N], GroupF
 fn read_number(bytes: &[u8]) -> Result<u32, GroupFault>
     ensures { MatchResult result (λ a. bytes.now ≡ four a) (λ e. (length bytes.now ≢ 4) × (e ≡ Encoding)) }
 {
-    let word = read_array::<4>(bytes)?;
+    let word: [u8; 4] = read_array(bytes)?;
     Ok(u32::from_be_bytes(word))
 }
 
-// Reads a number that is to be kept, and refuses any other bytes.
+// Reads a number that `keep` accepts, and refuses any other bytes.
 pub(crate) fn read_where<F: Fn(u32) -> bool>(bytes: &[u8], keep: F) -> Result<u32, GroupFault>
     requires { F.IsAlwaysCallable keep }
     ensures { MatchResult result (λ a. (bytes.now ≡ four a) × F.post keep a true) (λ e. (e ≡ Encoding) × ((length bytes.now ≢ 4) ⊎ ((a : ℕ) × (a < 2 ^ 32) × (bytes.now ≡ four a) × F.post keep a false))) }
