@@ -93,7 +93,7 @@ impl Group for Units {
     }
 }
 
-// Beside that of `Sums`: a trait over both, with its laws, would be longer than these methods.
+// As for `Sums`: one impl for both, over a trait with laws, is longer than these two.
 impl EncodedGroup for Units {
     ghost form = { λ g. number_form 3 g.modulus };
 
