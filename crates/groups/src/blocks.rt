@@ -3,10 +3,11 @@ ghost use Rattle.groups.specs.Forms.{block_form};
 ghost use Rattle.groups.specs.Xors.{blocks_laws};
 ghost use Rattle.std.proofs.Common.{rules};
 
-use crate::bytes::write_whole;
+use crate::bytes::{read_array, write_whole};
 use crate::encoded::{EncodedGroup, ShortGroup};
 use crate::fault::GroupFault;
 use crate::group::Group;
+use std::array;
 
 // Blocks of 16 bytes, under exclusive or. Each is its own negative.
 #[derive(Clone, Copy)]
@@ -23,13 +24,8 @@ impl Group for Blocks {
         true
     }
 
-    // Compares all bytes, also after two that differ, so that a compiler can compare them at once.
     fn same(&self, a: [u8; 16], b: [u8; 16]) -> bool {
-        let mut same = true;
-        for i in 0..16 {
-            same = same & (a[i] == b[i]);
-        }
-        same
+        a == b
     }
 
     fn zero(&self) -> [u8; 16] {
@@ -37,11 +33,7 @@ impl Group for Blocks {
     }
 
     fn sum(&self, a: [u8; 16], b: [u8; 16]) -> [u8; 16] {
-        let mut r = a;
-        for i in 0..16 {
-            r[i] ^= b[i];
-        }
-        r
+        array::from_fn(|i| a[i] ^ b[i])
     }
 
     fn negative(&self, a: [u8; 16]) -> [u8; 16] {
@@ -71,10 +63,7 @@ impl EncodedGroup for Blocks {
     }
 
     fn read(&self, bytes: &[u8]) -> Result<[u8; 16], GroupFault> {
-        match <[u8; 16]>::try_from(bytes) {
-            Ok(block) => Ok(block),
-            Err(_) => Err(GroupFault::Encoding),
-        }
+        read_array(bytes)
     }
 }
 

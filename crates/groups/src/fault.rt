@@ -11,6 +11,7 @@ pub enum GroupFault {
 }
 
 impl GroupFault {
+    // A table of numbers and one of places: the format fixes them, and other faults have theirs.
     pub fn number(self) -> u32
         ensures { result ≡ (refusal self).0 }
     {

@@ -6,6 +6,7 @@ mod bytes;
 pub mod encoded;
 pub mod fault;
 pub mod group;
+mod modulus;
 pub mod pair;
 pub mod sums;
 #[cfg(test)]

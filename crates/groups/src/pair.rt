@@ -14,6 +14,7 @@ use crate::sums::Sums;
 use std::alloc::AllocError;
 
 // Pairs of elements of two groups, part by part.
+#[derive(Copy)]
 pub struct Pair<A, B> {
     id: u8,
     modulus: u32,
@@ -22,6 +23,7 @@ pub struct Pair<A, B> {
     ghost named: { (1 ≤ id) × (id ≤ 255) },
 }
 
+// `Clone` can't be derived for a type with parameters and a ghost field.
 impl<A: Copy, B: Copy> Clone for Pair<A, B> {
     ghost is_clone = { λ pair copy. copy ≡ pair };
 
@@ -31,8 +33,6 @@ impl<A: Copy, B: Copy> Clone for Pair<A, B> {
         Ok(*self)
     }
 }
-
-impl<A: Copy, B: Copy> Copy for Pair<A, B> {}
 
 impl<A: Copy, B: Copy> Pair<A, B> {
     // Refuses the id 0.

@@ -5,14 +5,13 @@ ghost use Rattle.groups.specs.declared.fault.GroupFault.TheVariants.{Modulus};
 ghost use Rattle.groups.specs.Modulo.{sums_laws};
 ghost use Rattle.std.proofs.Common.{rules};
 
-use crate::bytes::{read_number, write_number};
+use crate::bytes::{read_where, write_number};
 use crate::encoded::{EncodedGroup, ShortGroup};
 use crate::fault::GroupFault;
 use crate::group::Group;
+use crate::modulus::check_modulus;
 
 const LEAST_MODULUS: u32 = 2;
-
-const GREATEST_MODULUS: u32 = 2147483647;
 
 // The numbers below a modulus, under addition modulo it.
 #[derive(Clone, Copy)]
@@ -26,9 +25,7 @@ impl Sums {
     pub fn new(modulus: u32) -> Result<Self, GroupFault>
         ensures { MatchResult result (λ g. InRange modulus × (g.modulus ≡ modulus)) (λ e. (InRange modulus → ⊥) × (e ≡ Modulus)) }
     {
-        if modulus < LEAST_MODULUS || modulus > GREATEST_MODULUS {
-            return Err(GroupFault::Modulus);
-        }
+        check_modulus(LEAST_MODULUS, modulus)?;
         Ok(Sums { modulus })
     }
 }
@@ -94,11 +91,7 @@ impl EncodedGroup for Sums {
     }
 
     fn read(&self, bytes: &[u8]) -> Result<u32, GroupFault> {
-        let a = read_number(bytes)?;
-        if !self.is_valid(a) {
-            return Err(GroupFault::Encoding);
-        }
-        Ok(a)
+        read_where(bytes, |a| self.is_valid(a))
     }
 }
 

@@ -5,14 +5,13 @@ ghost use Rattle.groups.specs.declared.fault.GroupFault.TheVariants.{Modulus};
 ghost use Rattle.std.proofs.Common.{arith, rules};
 ghost use Rattle.groups.specs.Multiples.{units_laws};
 
-use crate::bytes::{read_number, write_number};
+use crate::bytes::{read_where, write_number};
 use crate::encoded::{EncodedGroup, ShortGroup};
 use crate::fault::GroupFault;
 use crate::group::Group;
+use crate::modulus::check_modulus;
 
 const LEAST_MODULUS: u32 = 3;
-
-const GREATEST_MODULUS: u32 = 2147483647;
 
 // The numbers from 1 up to a modulus that have no divisor but 1 in common with it, under
 // multiplication modulo it. The zero of the group is 1, and a number's negative its inverse.
@@ -27,9 +26,7 @@ impl Units {
     pub fn new(modulus: u32) -> Result<Self, GroupFault>
         ensures { MatchResult result (λ g. InRange modulus × (g.modulus ≡ modulus)) (λ e. (InRange modulus → ⊥) × (e ≡ Modulus)) }
     {
-        if modulus < LEAST_MODULUS || modulus > GREATEST_MODULUS {
-            return Err(GroupFault::Modulus);
-        }
+        check_modulus(LEAST_MODULUS, modulus)?;
         Ok(Units { modulus })
     }
 }
@@ -96,6 +93,7 @@ impl Group for Units {
     }
 }
 
+// As for `Sums`: one impl for both, over a trait with laws, is longer than these two.
 impl EncodedGroup for Units {
     ghost form = { λ g. number_form 3 g.modulus };
 
@@ -118,11 +116,7 @@ impl EncodedGroup for Units {
     }
 
     fn read(&self, bytes: &[u8]) -> Result<u32, GroupFault> {
-        let a = read_number(bytes)?;
-        if !self.is_valid(a) {
-            return Err(GroupFault::Encoding);
-        }
-        Ok(a)
+        read_where(bytes, |a| self.is_valid(a))
     }
 }
 

@@ -23,10 +23,7 @@ fn show_deposit(rt: &HostRuntime, answer: Result<u32, CabinetFault>) -> io::Resu
 
 fn show_opening(rt: &HostRuntime, who: &str, answer: Result<Turn, CabinetFault>) -> io::Result<()> {
     match answer {
-        Ok(key) => {
-            let name = key.name();
-            println!(rt; "{who} open: {name}")
-        }
+        Ok(key) => println!(rt; "{who} open: {key}"),
         Err(fault) => show_refusal(rt, who, fault),
     }
 }

@@ -1,12 +1,13 @@
 // The turns of a valve, as a group that a cabinet can be made over.
-ghost use Rattle.std.specs.Prelude.{◌≡◌};
+ghost use Rattle.std.specs.Prelude.{◌≡◌, Some};
 ghost use Rattle.own_group.specs.Turns.{next, then, undone, is_stay, name_of, turns};
 ghost use Rattle.own_group.specs.Quarters.{turns_laws};
 
 use groups::group::Group;
+use std::fmt;
 
 // A turn of the valve by quarters. Two quarters one way are two the other way.
-#[derive(Clone, Copy)]
+#[derive(Clone, Copy, PartialEq, Eq)]
 pub enum Turn {
     Stay,
     Right,
@@ -54,7 +55,7 @@ impl Turn {
     pub fn is_stay(self) -> bool
         ensures { result ≡ is_stay self }
     {
-        matches!(self, Turn::Stay)
+        self == Turn::Stay
     }
 
     pub fn name(self) -> &'static str
@@ -66,6 +67,14 @@ impl Turn {
             Turn::Back => "back",
             Turn::Left => "left",
         }
+    }
+}
+
+impl fmt::Display for Turn {
+    ghost output = { λ turn. Some (name_of turn) };
+
+    fn fmt<W: fmt::Write>(&self, f: &mut fmt::Formatter<W>) -> fmt::Result {
+        f.write_str(self.name())
     }
 }
 
@@ -85,7 +94,7 @@ impl Group for Turns {
     }
 
     fn same(&self, a: Turn, b: Turn) -> bool {
-        a.then(b.undone()).is_stay()
+        a == b
     }
 
     fn zero(&self) -> Turn {
