@@ -115,10 +115,10 @@ module _ (bs : List ℕ) (l : Letter) (k p : ℕ) (h : p < length bs) (ns : List
       ∙ ap (λ r. read_fields r 0 l (ns ++ value_after 0 field_digits ∷ []) (p + 1 + length field_digits)) (drop-drop (length field_digits) (p + 1) bs)
 
 -- a line that is not too long, from the letter on, and at its end
-module _ (bs : List ℕ) (l : Letter) (ns : List ℕ) (p : ℕ) (few : length bs ≤ 16384) (first : Some l ≡ first_letter bs) (sofar : from_offset bs l ns p ≡ from_offset bs l [] 1) (end : p ≡ length bs) where
+module _ (bs : List ℕ) (l : Letter) (ns : List ℕ) (p : ℕ) (few : length bs ≤ 16384) (first : first_letter bs ≡ Some l) (sofar : from_offset bs l ns p ≡ from_offset bs l [] 1) (end : p ≡ length bs) where
   at_end : read_line bs ≡ cond (ltb (length ns) (least l)) (bad p) (good l ns)
   at_end =
-      cond-false _ _ _ (le-ltb 16384 (length bs) few) ∙ ap (λ o. after_letter o (drop 1 bs)) (sym first) ∙ sym sofar
+      cond-false _ _ _ (le-ltb 16384 (length bs) few) ∙ ap (λ o. after_letter o (drop 1 bs)) first ∙ sym sofar
       ∙ at_drop_all (λ r. read_fields r 0 l ns p) bs p (omega arith)
 
   pub missing : length ns < least l → Tells (read_line bs) (Err (Unreadable (length bs))) ns

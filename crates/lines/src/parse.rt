@@ -1,12 +1,10 @@
 // Reads a line: a letter, then numbers, each after exactly one space.
-ghost use Rattle.std.specs.Prelude.{◌≡◌, ℕ, ◌+◌, ◌<◌, ◌≤◌, List, [], ◌∷◌, ◌++◌, length, drop, IfOk, vec_len, vec_capacity, MatchResult, OnErr, slice_index};
+ghost use Rattle.std.specs.Prelude.{◌≡◌, ℕ, ◌+◌, ◌<◌, ◌≤◌, List, [], ◌∷◌, ◌++◌, length, drop, IfOk, vec_len, vec_capacity, MatchResult, slice_index, alloc_error};
 ghost use Rattle.std.specs.Int.{IsInRange};
-ghost use Rattle.lines.specs.Letters.{letter_of};
-ghost use Rattle.lines.specs.Lines.{front_digits, number_of, accepts, least, first_letter, read_line, Tells, from_offset, bad, ReadsBack};
+ghost use Rattle.lines.specs.Lines.{front_digits, number_of, accepts, least, first_letter, read_line, Parsed, from_offset, refused, ReadsBack};
 
-use crate::fault::LineFault;
+use crate::fault::{LineFault, ParseError};
 use crate::letter::Letter;
-use std::alloc::AllocError;
 
 // The longest line, in bytes.
 const LONGEST: usize = 16_384;
@@ -16,22 +14,6 @@ const SPACE: u8 = b' ';
 
 // The longest number, in digits.
 const DIGITS: usize = 10;
-
-// The letter that a byte stands for.
-pub fn letter(byte: u8) -> Option<Letter>
-    ensures { result ≡ letter_of byte }
-{
-    match byte as char {
-        'K' => Some(Letter::Make),
-        'D' => Some(Letter::Deposit),
-        'W' => Some(Letter::Withdraw),
-        'N' => Some(Letter::Refresh),
-        'S' => Some(Letter::Revoke),
-        'M' => Some(Letter::Repair),
-        'O' => Some(Letter::Open),
-        _ => None,
-    }
-}
 
 // Where the digits end that begin at `from`.
 fn digits_end(line: &[u8], from: usize) -> usize
@@ -89,61 +71,56 @@ fn fewest(letter: Letter) -> usize
 }
 
 // The field after `count` others, whose space is due at `start`: its number and where it ends, or where it is wrong.
-fn field(letter: Letter, count: usize, line: &[u8], start: usize) -> Result<(u32, usize), usize>
+fn field(letter: Letter, count: usize, line: &[u8], start: usize) -> Result<(u32, usize), LineFault>
     requires { start < length line.now }
     ensures moves { IfOk result (λ f. (start < f.1) × (f.1 ≤ length line.now)) }
-    ensures reads { (ns : List ℕ) → length ns ≡ count → MatchResult result (λ f. from_offset line.now letter ns start ≡ from_offset line.now letter (ns ++ f.0 ∷ []) f.1) (λ p. from_offset line.now letter ns start ≡ bad p) }
+    ensures reads { (ns : List ℕ) → length ns ≡ count → MatchResult result (λ f. from_offset line.now letter ns start ≡ from_offset line.now letter (ns ++ f.0 ∷ []) f.1) (λ f. from_offset line.now letter ns start ≡ refused f) }
 {
     if line[start] != SPACE {
-        return Err(start);
+        return Err(LineFault::Unreadable(start));
     }
     let from = start + 1;
     let to = digits_end(line, from);
     let Some(value) = number(&line[from..to]) else {
-        return Err(from);
+        return Err(LineFault::Unreadable(from));
     };
     if !takes(letter, count, value) {
-        return Err(from);
+        return Err(LineFault::Unreadable(from));
     }
     Ok((value, to))
 }
 
 // The letter that the line begins with.
-fn first(line: &[u8]) -> Option<Letter>
-    ensures { result ≡ first_letter line.now }
+fn first(line: &[u8]) -> Result<Letter, LineFault>
+    ensures { MatchResult result (λ l. first_letter line.now ≡ Some l) (λ f. (first_letter line.now ≡ None) × (f ≡ LineFault.Unreadable 0)) }
 {
     match line {
-        [byte, ..] => letter(*byte),
-        [] => None,
+        [byte, ..] => Letter::try_from(*byte),
+        [] => Err(LineFault::Unreadable(0)),
     }
 }
 
-// Reads a line. `fields` is cleared, and where there is no fault it holds the numbers after the letter.
-// What it holds after a fault is left open. An outer `Err` is want of memory: the room that `fields` had is full.
-pub fn parse(line: &[u8], fields: &mut Vec<u32>) -> Result<Result<Letter, LineFault>, AllocError>
-    ensures memory { OnErr result (vec_capacity fields.old ≤ vec_len fields.new) }
+// Reads a line. `fields` is cleared, and where the line is read it holds the numbers after the letter.
+// What it holds after a fault is left open. Where memory was wanting, the room that `fields` had is full.
+#[tactic(auto, using(crate::proofs::Back::reads_back))]
+pub fn parse(line: &[u8], fields: &mut Vec<u32>) -> Result<Letter, ParseError>
+    ensures memory { result ≡ Err (ParseError.Memory alloc_error) → vec_capacity fields.old ≤ vec_len fields.new }
     ensures back { ReadsBack }
-    ensures tells { IfOk result (λ a. Tells (read_line line.now) a fields.new.items) }
+    ensures tells { Parsed (read_line line.now) result fields.new.items }
 {
     fields.clear();
     if line.len() > LONGEST {
-        return Ok(Err(LineFault::Unreadable(LONGEST)));
+        return Err(ParseError::Line(LineFault::Unreadable(LONGEST)));
     }
-    let Some(letter) = first(line) else {
-        return Ok(Err(LineFault::Unreadable(0)));
-    };
+    let letter = first(line)?;
     let mut start = 1;
     while start < line.len() {
-        match field(letter, fields.len(), line, start) {
-            Ok((value, end)) => {
-                fields.push(value)?;
-                start = end;
-            }
-            Err(place) => return Ok(Err(LineFault::Unreadable(place))),
-        }
+        let (value, end) = field(letter, fields.len(), line, start)?;
+        fields.push(value)?;
+        start = end;
     }
     if fields.len() < fewest(letter) {
-        return Ok(Err(LineFault::Unreadable(line.len())));
+        return Err(ParseError::Line(LineFault::Unreadable(line.len())));
     }
-    Ok(Ok(letter))
+    Ok(letter)
 }
