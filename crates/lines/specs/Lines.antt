@@ -1,6 +1,6 @@
 -- What a line says: a letter, then numbers, each after exactly one space.
 use Rattle.std.specs.Prelude.{◌≡◌, ℕ, zero, suc, ◌+◌, ◌-◌, ◌*◌, ◌≤◌, Bool, true, cond, ◌&&◌, ◌||◌, List, [], ◌∷◌, ◌++◌, length, drop, Some, None, Ok, Err, decimal, Option, Result, ◌==◌, nat_le, nat_lt}
-use Rattle.std.specs.List.{flat_map}
+use Rattle.std.specs.List.{flat_map, take_while}
 use Rattle.std.specs.Char.{is_ascii_digit}
 use Rattle.lines.specs.declared.fault.LineFault.{LineFault}
 use Rattle.lines.specs.declared.fault.LineFault.TheVariants.{Unreadable}
@@ -21,8 +21,7 @@ refused (Unreadable p) = bad p
 
 -- the digits at the front, as far as they go
 abbrev pub front_digits : List ℕ → List ℕ
-front_digits [] = []
-front_digits (b ∷ bs) = cond (is_ascii_digit b) (b ∷ front_digits bs) []
+front_digits bs = take_while is_ascii_digit bs
 
 -- the number that digits write, where those before them write n
 abbrev pub value_after : ℕ → List ℕ → ℕ
