@@ -1,20 +1,20 @@
 -- Digits, numbers and fields, one step at a time.
-use Rattle.std.proofs.Common.{◌≡◌, ℕ, zero, suc, ◌+◌, ◌-◌, ◌^◌, ◌<◌, ◌≤◌, true, cond, ltb, List, [], ◌∷◌, ◌++◌, length, get_or, take, drop, Some, Ok, Err, IsUtf8, OkIff, Result, sym, refl, ap, ◌∙◌, add-zero, arith, rules}
-use Rattle.std.proofs.lemmas.List.{at_drop_more, at_drop_all, drop-drop, length-drop, length-take, take_all}
+use Rattle.std.proofs.Common.{◌≡◌, ℕ, zero, suc, ◌+◌, ◌-◌, ◌^◌, ◌<◌, ◌≤◌, true, cond, ltb, List, [], ◌∷◌, ◌++◌, length, get_or, take, drop, Some, Ok, Err, IsUtf8, OkIff, Result, sym, refl, ap, add-zero, arith, rules}
+use Rattle.std.proofs.lemmas.List.{drop-drop, length-drop, length-take, take_all}
 use Rattle.std.proofs.lemmas.List.Folds.{length-prefix_len}
 use Rattle.std.proofs.lemmas.List.Sums.{take_while-cons}
 use Rattle.std.proofs.lemmas.Fmt.{IsAscii-from_digits}
 use Rattle.std.proofs.lemmas.Str.{IsUtf8-from_ascii}
 use Rattle.std.proofs.lemmas.Str.Parse.{IsNumeralModel, numerals_by_fold, parse_digits}
-use Rattle.std.proofs.lemmas.Bool.{cond-true, cond-false, cond_both, and_from, le-ltb, eq-eqb}
 use Rattle.std.proofs.lemmas.Bool.Decides.{nat_tests}
+use Rattle.std.proofs.lemmas.Grind.{common_steps}
 use Rattle.std.specs.List.{prefix_len}
 use Rattle.std.specs.Result.{result_ok}
 use Rattle.std.specs.Str.{all_ascii_digits}
 use Rattle.std.specs.Str.Parse.{ParsesUnsigned}
 use Rattle.std.specs.Char.{is_ascii_digit}
 use Rattle.lines.specs.declared.letter.Letter.{Letter}
-use Rattle.lines.specs.Lines.{good, bad, front_digits, value_after, number_of, fine, read_fields, from_offset, least, first_letter, after_letter, read_line}
+use Rattle.lines.specs.Lines.{good, bad, front_digits, value_after, number_of, fine, read_fields, from_offset, least, first_letter, read_line}
 
 -- the digits and the number of a text, as the library has them
 pub numerals : IsNumeralModel (λ ds. all_ascii_digits ds ≡ true) (value_after 0)
@@ -29,15 +29,11 @@ front_short bs = omega (arith, length-take {A = ℕ})
 
 pub front_is : (bs : List ℕ) → all_ascii_digits (front_digits bs) ≡ true
 front_is [] = refl
-front_is (b ∷ bs) =
-    rw take_while-cons (cond_both (is_ascii_digit b) _ _ (λ l. all_ascii_digits l ≡ true) (λ t. and_from _ _ t (front_is bs)) (λ _. refl))
+front_is (b ∷ bs) = rw take_while-cons (grind (arith, nat_tests, front_is bs))
 
 -- the digits at the front of what follows p, and how many they are
 pub front_of : (bs : List ℕ) (p n : ℕ) → n ≡ prefix_len is_ascii_digit (take (length bs - p) (drop p bs)) → (take n (take (length bs - p) (drop p bs)) ≡ front_digits (drop p bs)) × (n ≡ length (front_digits (drop p bs)))
-front_of bs p n e =
-    let all : take (length bs - p) (drop p bs) ≡ drop p bs = take_all _ _ (omega (arith, length-drop p bs)) in
-    let many : n ≡ prefix_len is_ascii_digit (drop p bs) = e ∙ ap (prefix_len is_ascii_digit) all in
-    (ap (take n) all ∙ ap (λ k. take k (drop p bs)) many, many ∙ sym (length-prefix_len is_ascii_digit (drop p bs)))
+front_of bs p n e = grind (arith, take_all, length-drop, length-prefix_len)
 
 -- what the library reads of at most 10 digits
 read_as : {E : Type 0} (ds : List ℕ) (r : Result ℕ E) → length ds ≤ 10 → OkIff r ((0 < length ds) × (value_after 0 ds < 2 ^ 32)) (value_after 0 ds) → result_ok r ≡ number_of ds
@@ -51,21 +47,12 @@ number_from_parse ds r t few h = read_as ds r few (parse_digits numerals 32 ds r
 pub skip_on : (bs : List ℕ) (k : ℕ) (l : Letter) (ns : List ℕ) (p : ℕ) → k ≤ length bs → read_fields bs k l ns p ≡ read_fields (drop k bs) 0 l ns (p + k)
 skip_on bs zero l ns p h = ap (read_fields bs 0 l ns) (sym (add-zero p))
 skip_on [] (suc k) l ns p h = absurd (omega arith)
-skip_on (b ∷ bs) (suc k) l ns p h =
-    let e : p + 1 + k ≡ p + suc k = omega arith in
-    skip_on bs k l ns (p + 1) (omega arith) ∙ ap (read_fields (drop k bs) 0 l ns) e
+skip_on (b ∷ bs) (suc k) l ns p h = grind (arith, skip_on bs k l ns (p + 1))
 
 -- the line bs from p on, where a field follows the numbers ns
 pub is_fine : (bs : List ℕ) (l : Letter) (ns : List ℕ) (p : ℕ) → p < length bs → get_or bs p 0 ≡ 32 → fine l (length ns) (front_digits (drop (p + 1) bs)) ≡ true → from_offset bs l ns p ≡ from_offset bs l (ns ++ value_after 0 (front_digits (drop (p + 1) bs)) ∷ []) (p + 1 + length (front_digits (drop (p + 1) bs)))
-is_fine bs l ns p h t f =
-    let ds = front_digits (drop (p + 1) bs) in
-    let more = ns ++ value_after 0 ds ∷ [] in
-    at_drop_more (λ r. read_fields r 0 l ns p) bs p 0 h ∙ cond-true _ _ _ (eq-eqb _ _ t) ∙ cond-true _ _ _ f
-    ∙ skip_on (drop (p + 1) bs) (length ds) l more (p + 1) (front_short _)
-    ∙ ap (λ r. read_fields r 0 l more (p + 1 + length ds)) (drop-drop (length ds) (p + 1) bs)
+is_fine bs l ns p h t f = grind (arith, nat_tests, common_steps, skip_on, front_short, drop-drop)
 
 -- a line that is not too long, from the letter on, and at its end
 pub at_end : (bs : List ℕ) (l : Letter) (ns : List ℕ) (p : ℕ) → length bs ≤ 16384 → first_letter bs ≡ Some l → from_offset bs l ns p ≡ from_offset bs l [] 1 → p ≡ length bs → read_line bs ≡ cond (ltb (length ns) (least l)) (bad p) (good l ns)
-at_end bs l ns p few first sofar end =
-    cond-false _ _ _ (le-ltb 16384 (length bs) few) ∙ ap (λ o. after_letter o (drop 1 bs)) first ∙ sym sofar
-    ∙ at_drop_all (λ r. read_fields r 0 l ns p) bs p (omega arith)
+at_end bs l ns p few first sofar end = grind (arith, nat_tests, common_steps)

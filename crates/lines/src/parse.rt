@@ -97,6 +97,7 @@ pub fn parse(line: &[u8], fields: &mut Vec<u32>) -> Result<Letter, ParseError>
     }
     let byte = line.first().ok_or(LineFault::Unreadable(0))?;
     let letter = Letter::try_from(*byte)?;
+    // The fields are walked by offset, since a fault names the offset of the byte that is wrong.
     let mut start = 1;
     while start < line.len() {
         let (value, end) = field(letter, fields.len(), line, start)?;
