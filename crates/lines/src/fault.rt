@@ -12,6 +12,7 @@ pub enum LineFault {
 }
 
 impl LineFault {
+    // The number and the place are what the console's format prints.
     pub fn number(self) -> u32
         ensures { result ≡ (refusal self).0 }
     {
