@@ -1,20 +1,18 @@
 -- A line that is written is read back.
-use Rattle.std.proofs.Common.{◌≡◌, ℕ, ◌+◌, ◌^◌, ◌<◌, ◌≤◌, true, cond, List, [], ◌∷◌, ◌++◌, length, Some, decimal, sym, refl, ap, ◌∙◌, subst, append_assoc, append-nil, arith, rules}
+use Rattle.std.proofs.Common.{◌≡◌, ℕ, ◌+◌, ◌^◌, ◌<◌, ◌≤◌, true, List, [], ◌∷◌, ◌++◌, length, Some, decimal, sym, refl, ap, ◌∙◌, subst, append_assoc, append-nil, arith}
 use Rattle.std.proofs.lemmas.Fmt.{digits_decimal, digits_value-decimal, length-decimal-le, decimal_nonempty}
 use Rattle.std.proofs.lemmas.List.{drop_at, length_push, length-append}
-use Rattle.std.proofs.lemmas.Str.Parse.{IsNumeralModel, numerals_by_fold}
-use Rattle.std.proofs.lemmas.Bool.{cond-true, cond-false, and_parts, and_from, lt-ltb, le-ltb, le-leb}
+use Rattle.std.proofs.lemmas.List.Sums.{take_while-cons}
+use Rattle.std.proofs.lemmas.Bool.Decides.{nat_tests}
+use Rattle.std.proofs.lemmas.Bool.{cond-true, cond-false, and_parts, le-ltb}
 use Rattle.std.specs.List.{flat_map}
 use Rattle.std.specs.Char.{is_ascii_digit}
 use Rattle.std.specs.Str.{all_ascii_digits}
 use Rattle.lines.specs.declared.letter.Letter.{Letter}
 use Rattle.lines.specs.declared.letter.Letter.TheVariants.{Make, Deposit, Withdraw, Refresh, Revoke, Repair, Open}
 use Rattle.lines.specs.Letters.{letter_of, sign}
-use Rattle.lines.specs.Lines.{Read, good, bad, front_digits, value_after, readable, accepts, least, fine, read_fields, after_letter, line_of, Accepted, ReadsBack}
-use Rattle.lines.proofs.Reading.{skip_on}
-
-own : IsNumeralModel (λ ds. all_ascii_digits ds ≡ true) (value_after 0)
-own = numerals_by_fold _ (search rules) value_after (search rules)
+use Rattle.lines.specs.Lines.{good, front_digits, accepts, least, fine, read_fields, after_letter, line_of, Accepted, ReadsBack}
+use Rattle.lines.proofs.Reading.{numerals, skip_on}
 
 abbrev spaced : ℕ → List ℕ
 spaced n = 32 ∷ decimal n
@@ -28,32 +26,26 @@ front_all : (ds ns : List ℕ) → all_ascii_digits ds ≡ true → front_digits
 front_all [] ns t = front_end ns
 front_all (d ∷ ds) ns t =
     let p = and_parts (is_ascii_digit d) (all_ascii_digits ds) t in
-    cond-true _ _ _ p.0 ∙ ap (λ l. d ∷ l) (front_all ds ns p.1)
+    take_while-cons is_ascii_digit d (ds ++ flat_map spaced ns) ∙ cond-true _ _ _ p.0 ∙ ap (λ l. d ∷ l) (front_all ds ns p.1)
 
 -- a number in decimal is a field
 decimal_fine : (l : Letter) (k n : ℕ) → n ≤ 4294967295 → accepts l k n ≡ true → fine l k (decimal n) ≡ true
 decimal_fine l k n small ok =
     let fits : n < 2 ^ 64 = omega arith in
-    let is = digits_value-decimal own n fits in
-    and_from (readable (decimal n)) _
-    (and_from _ _ (lt-ltb _ _ (decimal_nonempty n fits)) (and_from _ _ (le-leb _ _ (length-decimal-le 10 n (omega arith) (omega arith) fits)) (le-leb _ _ (omega arith))))
-    (ap (accepts l k) is ∙ ok)
+    grind (arith, nat_tests, digits_value-decimal numerals n fits, decimal_nonempty n fits, length-decimal-le 10 n (omega arith) (omega arith) fits)
+
+-- a field that is written is read, and what follows it
+field_back : (l : Letter) (ms ns : List ℕ) (n p : ℕ) → n ≤ 4294967295 → accepts l (length ms) n ≡ true → read_fields (flat_map spaced (n ∷ ns)) 0 l ms p ≡ read_fields (flat_map spaced ns) 0 l (ms ++ n ∷ []) (p + 1 + length (decimal n))
+field_back l ms ns n p small ok =
+    let fits : n < 2 ^ 64 = omega arith in
+    let front = front_all (decimal n) ns (digits_decimal numerals n fits) in
+    grind (arith, decimal_fine l (length ms) n small ok, front, digits_value-decimal numerals n fits, skip_on, drop_at, length-append (decimal n) (flat_map spaced ns))
 
 fields_back : (l : Letter) (ms ns : List ℕ) (p : ℕ) → Accepted l (length ms) ns → least l ≤ length (ms ++ ns) → read_fields (flat_map spaced ns) 0 l ms p ≡ good l (ms ++ ns)
-fields_back l ms [] p ok enough =
-    let same = append-nil ms in
-    cond-false _ _ _ (le-ltb _ _ (subst (λ x. least l ≤ length x) same enough)) ∙ ap (good l) (sym same)
+fields_back l ms [] p ok enough = grind (arith, nat_tests, append-nil)
 fields_back l ms (n ∷ ns) p ok enough =
-    let rest = flat_map spaced ns in
-    let fits : n < 2 ^ 64 = omega (arith, ok.0) in
-    let front = front_all (decimal n) ns (digits_decimal own n fits) in
-    let one : List ℕ → Read = λ ds. cond (fine l (length ms) ds) (read_fields (decimal n ++ rest) (length ds) l (ms ++ value_after 0 ds ∷ []) (p + 1)) (bad (p + 1)) in
     let again = append_assoc ms (n ∷ []) ns in
-    ap one front
-    ∙ cond-true _ _ _ (decimal_fine l (length ms) n ok.0 ok.1)
-    ∙ skip_on (decimal n ++ rest) (length (decimal n)) l (ms ++ value_after 0 (decimal n) ∷ []) (p + 1) (omega (arith, length-append (decimal n) rest))
-    ∙ ap (λ bs. read_fields bs 0 l (ms ++ value_after 0 (decimal n) ∷ []) (p + 1 + length (decimal n))) (drop_at (decimal n) rest _ refl)
-    ∙ ap (λ v. read_fields rest 0 l (ms ++ v ∷ []) (p + 1 + length (decimal n))) (digits_value-decimal own n fits)
+    field_back l ms ns n p ok.0 ok.1
     ∙ fields_back l (ms ++ n ∷ []) ns (p + 1 + length (decimal n)) (subst (λ k. Accepted l k ns) (sym (length_push ms n)) ok.2) (subst (λ x. least l ≤ length x) (sym again) enough)
     ∙ ap (good l) again
 

@@ -1,9 +1,11 @@
 -- What a line says: a letter, then numbers, each after exactly one space.
 use Rattle.std.specs.Prelude.{◌≡◌, ℕ, zero, suc, ◌+◌, ◌-◌, ◌*◌, ◌≤◌, Bool, true, cond, ◌&&◌, ◌||◌, List, [], ◌∷◌, ◌++◌, length, drop, Some, None, Ok, Err, decimal, Option, Result, ◌==◌, nat_le, nat_lt}
-use Rattle.std.specs.List.{flat_map}
+use Rattle.std.specs.List.{flat_map, take_while}
 use Rattle.std.specs.Char.{is_ascii_digit}
 use Rattle.lines.specs.declared.fault.LineFault.{LineFault}
 use Rattle.lines.specs.declared.fault.LineFault.TheVariants.{Unreadable}
+use Rattle.lines.specs.declared.fault.ParseError.{ParseError}
+use Rattle.lines.specs.declared.fault.ParseError.TheVariants.{Line, Memory}
 use Rattle.lines.specs.declared.letter.Letter.{Letter}
 use Rattle.lines.specs.declared.letter.Letter.TheVariants.{Make, Deposit, Withdraw, Refresh, Revoke, Repair, Open}
 use Rattle.lines.specs.Letters.{letter_of, sign}
@@ -13,10 +15,13 @@ pub data Read : Type 0 where
   good : Letter → List ℕ → Read
   bad : ℕ → Read
 
+-- the fault of a line as what was read
+abbrev pub refused : LineFault → Read
+refused (Unreadable p) = bad p
+
 -- the digits at the front, as far as they go
 abbrev pub front_digits : List ℕ → List ℕ
-front_digits [] = []
-front_digits (b ∷ bs) = cond (is_ascii_digit b) (b ∷ front_digits bs) []
+front_digits bs = take_while is_ascii_digit bs
 
 -- the number that digits write, where those before them write n
 abbrev pub value_after : ℕ → List ℕ → ℕ
@@ -88,6 +93,12 @@ read_line bs = cond (nat_lt 16384 (length bs)) (bad 16384) (after_letter (first_
 abbrev pub Tells : Read → Result Letter LineFault → List ℕ → Type 0
 Tells (good l ns) a now-held = (a ≡ Ok l) × (now-held ≡ ns)
 Tells (bad p) a now-held = a ≡ Err (Unreadable p)
+
+-- the same of what a parse gives; where memory was wanting, nothing is told
+abbrev pub Parsed : Read → Result Letter ParseError → List ℕ → Type 0
+Parsed r (Ok l) now-held = Tells r (Ok l) now-held
+Parsed r (Err (Line f)) now-held = Tells r (Err f) now-held
+Parsed r (Err (Memory e)) now-held = Unit {0}
 
 -- what the line bs says from the offset p on, where a space is due
 abbrev pub from_offset : List ℕ → Letter → List ℕ → ℕ → Read

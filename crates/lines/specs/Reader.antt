@@ -1,10 +1,5 @@
 -- What a line reader holds.
-use Rattle.std.specs.Prelude.{◌≡◌, ℕ, false, cond, List, [], ◌∷◌, ◌++◌, length, take, vec_items, ◌==◌, nat_lt}
-use Rattle.lines.specs.declared.reader.LineReader.{LineReader}
-
--- the bytes of the line so far
-abbrev pub held : LineReader → List ℕ
-held r = vec_items r.bytes
+use Rattle.std.specs.Prelude.{◌≡◌, ℕ, false, cond, List, [], ◌∷◌, ◌++◌, length, take, ◌==◌, nat_lt}
 
 -- what is held once a byte more has come: a newline is not kept, nor is a byte past the 16385th
 abbrev pub fed : List ℕ → ℕ → List ℕ

@@ -5,18 +5,18 @@ ghost use Rattle.lines.specs.Answers.{written};
 use std::alloc::{AllocError, Global};
 use std::fmt;
 
-#[derive(Clone, Copy, Debug, PartialEq)]
-pub enum Answer {
-    // What was asked for.
-    Number(u32),
-    // The number of a fault, and its place.
-    Refused { number: u32, place: usize },
+// The number of a fault, and its place.
+#[derive(Clone, Copy, Debug, PartialEq, Eq)]
+pub struct Refusal {
+    pub number: u32,
+    pub place: usize,
 }
 
-#[derive(Clone, Copy, Debug, PartialEq)]
+#[derive(Clone, Copy, Debug, PartialEq, Eq)]
 pub struct AnswerLine {
     pub letter: char,
-    pub answer: Answer,
+    // The number that was asked for, or why there is none.
+    pub answer: Result<u32, Refusal>,
 }
 
 impl fmt::Display for AnswerLine {
@@ -25,8 +25,8 @@ impl fmt::Display for AnswerLine {
     fn fmt<W: fmt::Write>(&self, f: &mut fmt::Formatter<W>) -> fmt::Result {
         let letter = self.letter;
         match self.answer {
-            Answer::Number(number) => write!(f, "{letter} {number}"),
-            Answer::Refused { number, place } => write!(f, "{letter} ! {number} {place}"),
+            Ok(number) => write!(f, "{letter} {number}"),
+            Err(Refusal { number, place }) => write!(f, "{letter} ! {number} {place}"),
         }
     }
 }

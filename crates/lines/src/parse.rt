@@ -1,12 +1,13 @@
 // Reads a line: a letter, then numbers, each after exactly one space.
-ghost use Rattle.std.specs.Prelude.{◌≡◌, ℕ, ◌+◌, ◌<◌, ◌≤◌, List, [], ◌∷◌, ◌++◌, length, drop, IfOk, vec_len, vec_capacity, MatchResult, OnErr, slice_index};
-ghost use Rattle.std.specs.Int.{IsInRange};
-ghost use Rattle.lines.specs.Letters.{letter_of};
-ghost use Rattle.lines.specs.Lines.{front_digits, number_of, accepts, least, first_letter, read_line, Tells, from_offset, bad, ReadsBack};
+ghost use Rattle.std.specs.Prelude.{◌≡◌, ℕ, ◌+◌, ◌<◌, ◌≤◌, true, List, [], ◌∷◌, ◌++◌, length, drop, IfOk, vec_len, vec_capacity, MatchResult, slice_index, alloc_error};
+ghost use Rattle.std.specs.Char.{is_ascii_digit};
+ghost use Rattle.std.specs.List.{prefix_len};
+ghost use Rattle.std.specs.Str.{all_ascii_digits};
+ghost use Rattle.lines.specs.Lines.{front_digits, number_of, accepts, least, first_letter, read_line, Parsed, from_offset, refused, ReadsBack};
 
-use crate::fault::LineFault;
+use crate::fault::{LineFault, ParseError};
 use crate::letter::Letter;
-use std::alloc::AllocError;
+use std::str;
 
 // The longest line, in bytes.
 const LONGEST: usize = 16_384;
@@ -17,51 +18,26 @@ const SPACE: u8 = b' ';
 // The longest number, in digits.
 const DIGITS: usize = 10;
 
-// The letter that a byte stands for.
-pub fn letter(byte: u8) -> Option<Letter>
-    ensures { result ≡ letter_of byte }
+// How many digits stand at the front.
+fn leading_digits(bytes: &[u8]) -> usize
+    ensures value { result ≡ prefix_len is_ascii_digit bytes.now }
+    ensures bound { result ≤ length bytes.now }
 {
-    match byte as char {
-        'K' => Some(Letter::Make),
-        'D' => Some(Letter::Deposit),
-        'W' => Some(Letter::Withdraw),
-        'N' => Some(Letter::Refresh),
-        'S' => Some(Letter::Revoke),
-        'M' => Some(Letter::Repair),
-        'O' => Some(Letter::Open),
-        _ => None,
-    }
-}
-
-// Where the digits end that begin at `from`.
-fn digits_end(line: &[u8], from: usize) -> usize
-    requires { from ≤ length line.now }
-    ensures value { result ≡ from + length (front_digits (drop from line.now)) }
-    ensures bound { result ≤ length line.now }
-{
-    let mut end = from;
-    while end < line.len() && line[end].is_ascii_digit() {
-        end += 1;
-    }
-    end
+    bytes
+        .iter()
+        .take_while(|byte| byte.is_ascii_digit())
+        .count()
 }
 
 // The number that the digits write, if there are 1 to 10 of them and it is not too large.
 fn number(digits: &[u8]) -> Option<u32>
-    requires { (k : ℕ) → k < length digits.now → IsInRange 48 57 (slice_index digits.now k) }
+    requires { all_ascii_digits digits.now ≡ true }
     ensures { result ≡ number_of digits.now }
 {
-    if digits.is_empty() || digits.len() > DIGITS {
+    if digits.len() > DIGITS {
         return None;
     }
-    let mut value: u64 = 0;
-    for byte in digits {
-        value = value * 10 + u64::from(*byte - b'0');
-        if value > u32::MAX as u64 {
-            return None;
-        }
-    }
-    Some(value as u32)
+    str::from_utf8(digits).ok()?.parse().ok()
 }
 
 // Whether the letter takes `value` as its field after `count` others.
@@ -89,61 +65,47 @@ fn fewest(letter: Letter) -> usize
 }
 
 // The field after `count` others, whose space is due at `start`: its number and where it ends, or where it is wrong.
-fn field(letter: Letter, count: usize, line: &[u8], start: usize) -> Result<(u32, usize), usize>
+fn field(letter: Letter, count: usize, line: &[u8], start: usize) -> Result<(u32, usize), LineFault>
     requires { start < length line.now }
     ensures moves { IfOk result (λ f. (start < f.1) × (f.1 ≤ length line.now)) }
-    ensures reads { (ns : List ℕ) → length ns ≡ count → MatchResult result (λ f. from_offset line.now letter ns start ≡ from_offset line.now letter (ns ++ f.0 ∷ []) f.1) (λ p. from_offset line.now letter ns start ≡ bad p) }
+    ensures reads { (ns : List ℕ) → length ns ≡ count → MatchResult result (λ f. from_offset line.now letter ns start ≡ from_offset line.now letter (ns ++ f.0 ∷ []) f.1) (λ e. from_offset line.now letter ns start ≡ refused e) }
 {
     if line[start] != SPACE {
-        return Err(start);
+        return Err(LineFault::Unreadable(start));
     }
     let from = start + 1;
-    let to = digits_end(line, from);
-    let Some(value) = number(&line[from..to]) else {
-        return Err(from);
-    };
-    if !takes(letter, count, value) {
-        return Err(from);
-    }
-    Ok((value, to))
-}
-
-// The letter that the line begins with.
-fn first(line: &[u8]) -> Option<Letter>
-    ensures { result ≡ first_letter line.now }
-{
-    match line {
-        [byte, ..] => letter(*byte),
-        [] => None,
+    let rest = &line[from..];
+    let digits = leading_digits(rest);
+    match number(&rest[..digits]) {
+        Some(value) if takes(letter, count, value) => Ok((value, from + digits)),
+        _ => Err(LineFault::Unreadable(from)),
     }
 }
 
-// Reads a line. `fields` is cleared, and where there is no fault it holds the numbers after the letter.
-// What it holds after a fault is left open. An outer `Err` is want of memory: the room that `fields` had is full.
-pub fn parse(line: &[u8], fields: &mut Vec<u32>) -> Result<Result<Letter, LineFault>, AllocError>
-    ensures memory { OnErr result (vec_capacity fields.old ≤ vec_len fields.new) }
+// Reads a line. `fields` is cleared, and where the line is read it holds the numbers after the letter.
+// What it holds after a fault is left open. Where memory was wanting, the room that `fields` had is full.
+#[tactic(auto, using(crate::proofs::Back::reads_back, crate::proofs::Reading::at_end))]
+pub fn parse(line: &[u8], fields: &mut Vec<u32>) -> Result<Letter, ParseError>
+    ensures memory { result ≡ Err (ParseError.Memory alloc_error) → vec_capacity fields.old ≤ vec_len fields.new }
     ensures back { ReadsBack }
-    ensures tells { IfOk result (λ a. Tells (read_line line.now) a fields.new.items) }
+    ensures enough { IfOk result (λ l. least l ≤ vec_len fields.new) }
+    ensures tells { Parsed (read_line line.now) result fields.new.items }
 {
     fields.clear();
     if line.len() > LONGEST {
-        return Ok(Err(LineFault::Unreadable(LONGEST)));
+        return Err(ParseError::Line(LineFault::Unreadable(LONGEST)));
     }
-    let Some(letter) = first(line) else {
-        return Ok(Err(LineFault::Unreadable(0)));
-    };
+    let byte = line.first().ok_or(LineFault::Unreadable(0))?;
+    let letter = Letter::try_from(*byte)?;
+    // The fields are walked by offset, since a fault names the offset of the byte that is wrong.
     let mut start = 1;
     while start < line.len() {
-        match field(letter, fields.len(), line, start) {
-            Ok((value, end)) => {
-                fields.push(value)?;
-                start = end;
-            }
-            Err(place) => return Ok(Err(LineFault::Unreadable(place))),
-        }
+        let (value, end) = field(letter, fields.len(), line, start)?;
+        fields.push(value)?;
+        start = end;
     }
     if fields.len() < fewest(letter) {
-        return Ok(Err(LineFault::Unreadable(line.len())));
+        return Err(ParseError::Line(LineFault::Unreadable(line.len())));
     }
-    Ok(Ok(letter))
+    Ok(letter)
 }

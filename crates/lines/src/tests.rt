@@ -1,5 +1,5 @@
-use crate::answer::{Answer, AnswerLine, text};
-use crate::fault::LineFault;
+use crate::answer::{AnswerLine, Refusal, text};
+use crate::fault::{LineFault, ParseError};
 use crate::letter::Letter;
 use crate::parse::parse;
 use crate::reader::LineReader;
@@ -26,8 +26,9 @@ fn faults_have_places(rt: HostRuntime) -> Result<(), Fail> {
     ];
     let mut fields = Vec::new(rt.alloc());
     for (line, place) in table {
-        let read = parse(line.as_bytes(), &mut fields)?;
-        assert_eq!(rt; read, Err(LineFault::Unreadable(place)), "{}", line);
+        let read = parse(line.as_bytes(), &mut fields);
+        let fault = LineFault::Unreadable(place);
+        assert_eq!(rt; read, Err(ParseError::Line(fault)), "{}", line);
     }
     Ok(())
 }
@@ -42,7 +43,7 @@ fn lines_are_read(rt: HostRuntime) -> Result<(), Fail> {
     ];
     let mut fields = Vec::new(rt.alloc());
     for (line, letter, numbers) in table {
-        let read = parse(line.as_bytes(), &mut fields)?;
+        let read = parse(line.as_bytes(), &mut fields);
         assert_eq!(rt; read, Ok(letter), "{}", line);
         assert_eq!(rt; fields.as_slice(), numbers, "{}", line);
     }
@@ -58,8 +59,9 @@ fn long_lines_are_refused(rt: HostRuntime) -> Result<(), Fail> {
     }
     assert!(rt; reader.feed(b'\n')?);
     assert_eq!(rt; reader.line().len(), 16_385);
-    let read = parse(reader.line(), &mut fields)?;
-    assert_eq!(rt; read, Err(LineFault::Unreadable(16_384)));
+    let read = parse(reader.line(), &mut fields);
+    let fault = LineFault::Unreadable(16_384);
+    assert_eq!(rt; read, Err(ParseError::Line(fault)));
     reader.clear();
     assert!(rt; reader.is_empty());
     Ok(())
@@ -71,8 +73,8 @@ fn answers_are_written(rt: HostRuntime) -> Result<(), Fail> {
     let number = fault.number();
     let place = fault.place();
     let table = [
-        ('D', Answer::Number(7), "D 7"),
-        ('K', Answer::Refused { number, place }, "K ! 29 2"),
+        ('D', Ok(7), "D 7"),
+        ('K', Err(Refusal { number, place }), "K ! 29 2"),
     ];
     for (letter, answer, shown) in table {
         let line = AnswerLine { letter, answer };
