@@ -5,14 +5,14 @@ ghost use Rattle.history.specs.Ledgers.{fresh, is_present, with_holder};
 const MOST_HOLDERS: usize = 30;
 
 // What is recorded of a holder: whether the share is present, and the epoch at which that last changed.
-#[derive(Clone, Copy)]
+#[derive(Clone, Copy, PartialEq, Eq, Debug)]
 pub struct Holder {
     pub present: bool,
     pub changed: u32,
 }
 
 // The public part of a cabinet's state: how many deals it has accepted, and its holders from number 1 on.
-#[derive(Clone, Copy)]
+#[derive(Clone, Copy, PartialEq, Eq, Debug)]
 pub struct Ledger {
     pub epoch: u32,
     pub holders: [Holder; MOST_HOLDERS],
