@@ -8,6 +8,7 @@ ghost use Rattle.sharing.specs.Shares.{changed, length_rows, dealing_rows, tuple
 use crate::dealing::{deal_into, interpolate};
 use crate::fault::CabinetFault;
 use crate::helpers::{check_helpers, check_holder};
+use crate::lengths::check_count;
 use crate::scheme::Scheme;
 use crate::tuples::{add_into, subtract_into};
 use groups::group::Group;
@@ -23,22 +24,19 @@ pub enum Change {
 fn check_lengths(scheme: Scheme, shares: usize, scratch: usize) -> Result<(), CabinetFault>
     ensures { result ≡ verdict (first (length_rows scheme shares scratch)) }
 {
-    if shares != scheme.share_length() {
-        return Err(CabinetFault::MemoryLength(scheme.share_length()));
-    }
-    if scratch != 3 * scheme.width() {
-        return Err(CabinetFault::MemoryLength(3 * scheme.width()));
-    }
-    Ok(())
+    check_count(CabinetFault::MemoryLength, scheme.share_length(), shares)?;
+    check_count(CabinetFault::MemoryLength, 3 * scheme.width(), scratch)
 }
 
 // Refuses a wrong number of coefficients, and a holder that the scheme does not have.
 fn check_dealing(scheme: Scheme, coefficients: usize, holder: u32) -> Result<(), CabinetFault>
     ensures { result ≡ verdict (first (dealing_rows scheme coefficients holder)) }
 {
-    if coefficients != scheme.coefficient_count() {
-        return Err(CabinetFault::CoefficientCount(scheme.coefficient_count()));
-    }
+    check_count(
+        CabinetFault::CoefficientCount,
+        scheme.coefficient_count(),
+        coefficients,
+    )?;
     check_holder(scheme, holder)
 }
 
@@ -46,9 +44,7 @@ fn check_dealing(scheme: Scheme, coefficients: usize, holder: u32) -> Result<(),
 fn check_tuple(scheme: Scheme, out: usize, helpers: &[u32]) -> Result<(), CabinetFault>
     ensures { result ≡ verdict (first (tuple_rows scheme out helpers.now)) }
 {
-    if out != scheme.width() {
-        return Err(CabinetFault::MemoryLength(scheme.width()));
-    }
+    check_count(CabinetFault::MemoryLength, scheme.width(), out)?;
     check_helpers(scheme, helpers)
 }
 
