@@ -11,7 +11,6 @@ ghost use Rattle.custody.specs.States.{state_of, SameCabinet};
 ghost use Rattle.custody.specs.Dealings.{keyed_rows, keyed_out, Deals};
 
 use crate::cabinet::Cabinet;
-use crate::checks::{check_deal, check_memory};
 use groups::group::Group;
 use sharing::fault::CabinetFault;
 use sharing::shares::{Change, deal_to};
@@ -28,14 +27,8 @@ impl<G: Group> Cabinet<G> {
     ) -> Result<(), CabinetFault>
         ensures { result ≡ verdict (first (memory_rows (G.ops self.now.group) self.now.scheme shares.now working ++ keyed_rows (G.ops self.now.group) self.now.scheme self.now.ledger.epoch key coefficients.now)) }
     {
-        check_memory(&self.group, self.scheme, shares, working)?;
-        check_deal(
-            &self.group,
-            self.scheme,
-            self.ledger.epoch,
-            key,
-            coefficients,
-        )
+        self.check_memory(shares, working)?;
+        self.check_deal(key, coefficients)
     }
 
     // Deals to one holder, where its share is present.

@@ -9,11 +9,11 @@ ghost use Rattle.custody.specs.States.{state_of, SameCabinet};
 ghost use Rattle.custody.specs.Holders.{Recorded};
 
 use crate::cabinet::Cabinet;
-use crate::checks::{check_change, check_length, check_list, check_memory, check_valid};
 use groups::group::Group;
 use history::ledger::Holder;
 use sharing::fault::CabinetFault;
 use sharing::helpers::check_holder;
+use sharing::lengths::check_count;
 use sharing::shares::tuple_at;
 use sharing::tuples::fill_zero;
 
@@ -41,9 +41,13 @@ impl<G: Group> Cabinet<G> {
     fn check_revoking(&self, holder: u32, shares: &[G::Element]) -> Result<(), CabinetFault>
         ensures { result ≡ verdict (fault (G.ops self.now.group) self.now.scheme (state_of self.now shares.now) 0 (revoking holder)) }
     {
-        check_length(self.scheme, shares.len())?;
-        check_valid(&self.group, self.scheme, shares)?;
-        check_change(self.scheme, &self.ledger, true, holder)
+        check_count(
+            CabinetFault::MemoryLength,
+            self.scheme.share_length(),
+            shares.len(),
+        )?;
+        self.check_valid(shares)?;
+        self.check_change(true, holder)
     }
 
     // Refuses a repair for the first row that applies.
@@ -56,9 +60,9 @@ impl<G: Group> Cabinet<G> {
     ) -> Result<(), CabinetFault>
         ensures { result ≡ verdict (fault (G.ops self.now.group) self.now.scheme (state_of self.now shares.now) working (repairing holder helpers.now)) }
     {
-        check_memory(&self.group, self.scheme, shares, working)?;
-        check_change(self.scheme, &self.ledger, false, holder)?;
-        check_list(self.scheme, &self.ledger, helpers)
+        self.check_memory(shares, working)?;
+        self.check_change(false, holder)?;
+        self.check_list(helpers)
     }
 
     // Makes a holder that is present a missing one: its share becomes zeros.

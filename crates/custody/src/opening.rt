@@ -7,7 +7,6 @@ ghost use Rattle.history.specs.Steps.{told, step};
 ghost use Rattle.custody.specs.States.{state_of};
 
 use crate::cabinet::Cabinet;
-use crate::checks::{check_list, check_memory};
 use groups::group::Group;
 use sharing::fault::CabinetFault;
 use sharing::shares::tuple_at;
@@ -37,8 +36,8 @@ impl<G: Group> Cabinet<G> {
     ) -> Result<(), CabinetFault>
         ensures { result ≡ verdict (fault (G.ops self.now.group) self.now.scheme (state_of self.now shares.now) working (opening helpers.now)) }
     {
-        check_memory(&self.group, self.scheme, shares, working)?;
-        check_list(self.scheme, &self.ledger, helpers)
+        self.check_memory(shares, working)?;
+        self.check_list(helpers)
     }
 
     // The key, from t helpers' shares.
