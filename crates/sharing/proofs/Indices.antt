@@ -1,10 +1,9 @@
 -- Which scalars the code multiplies by, for two indices in either order.
-use Rattle.std.proofs.Common.{◌≡◌, ℕ, suc, ◌+◌, ◌-◌, ◌*◌, ◌%◌, ◌<◌, ◌≤◌, min, ltb, sym, ap, ◌∙◌, ap₂, arith}
+use Rattle.std.proofs.Common.{◌≡◌, ℕ, ◌+◌, ◌-◌, ◌<◌, ◌≤◌, min, ltb, sym, ap, ◌∙◌, ap₂, arith}
 use Rattle.std.proofs.lemmas.Bool.{cond-true, cond-false, lt-ltb, le-ltb}
-use Rattle.algebra.specs.Primes.{inverse_from, inverse_number}
+use Rattle.algebra.specs.Primes.{inverse_number}
 use Rattle.algebra.specs.Scalars.{Scalar, times, minus, power, geometric}
 use Rattle.algebra.specs.Sharing.{across, difference, inverse}
-use Rattle.algebra.proofs.PrimeNumbers.{inverse_found, inverse_passed}
 
 -- a is the lesser of the two, d their distance
 module _ (k j a d : ℕ) (low : a ≡ min k j) (distance : d ≡ (k - j) + (j - k)) where
@@ -36,17 +35,3 @@ module _ (k j a d : ℕ) (low : a ≡ min k j) (distance : d ≡ (k - j) + (j - 
     inverse_other h =
         ap (λ (b : ℕ). minus (times (power (q - a)) (geometric d b))) inverts
         ∙ below (λ a d. times (power (q - a)) (geometric d (inverse_number q d))) h
-
--- the search for the inverse of d, from e on
-module _ (q d e : ℕ) (h : e < q) where
-  left : q - e ≡ suc (q - (e + 1))
-  left = omega arith
-
-  pub search_found : (d * e) % q ≡ 1 → inverse_from q d e (q - e) ≡ inverse_number q d → e ≡ inverse_number q d
-  search_found f inv = sym (inverse_found q d e (q - (e + 1)) f) ∙ sym (ap (inverse_from q d e) left) ∙ inv
-
-  pub search_passed : ((d * e) % q ≡ 1 → ⊥) → inverse_from q d e (q - e) ≡ inverse_number q d → inverse_from q d (e + 1) (q - (e + 1)) ≡ inverse_number q d
-  search_passed f inv = sym (inverse_passed q d e (q - (e + 1)) f) ∙ sym (ap (inverse_from q d e) left) ∙ inv
-
-pub search_ended : (q d e : ℕ) → q ≤ e → inverse_from q d e (q - e) ≡ inverse_number q d → 0 ≡ inverse_number q d
-search_ended q d e h inv = let z : q - e ≡ 0 = omega arith in sym (ap (inverse_from q d e) z) ∙ inv

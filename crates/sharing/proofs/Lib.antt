@@ -1,4 +1,3 @@
-pub mod HelperLists
 pub mod Acting
 pub mod Indices
 pub mod Weights
@@ -8,3 +7,6 @@ pub mod ShareRows
 pub mod Verdicts
 pub mod Choosing
 pub mod Interpolating
+pub mod FirstPlaces
+pub mod Filling
+pub mod PrimeSearch

@@ -11,13 +11,9 @@ use crate::scheme::Scheme;
 fn first_unknown(n: usize, helpers: &[u32]) -> Option<usize>
     ensures { result ≡ first_place (unknown_at n helpers.now) 0 (length helpers.now) }
 {
-    for i in 0..helpers.len() {
-        let number = helpers[i] as usize;
-        if number < 1 || number > n {
-            return Some(i);
-        }
-    }
-    None
+    helpers
+        .iter()
+        .position(|number| *number < 1 || *number as usize > n)
 }
 
 // Whether the number at position i stands at an earlier one too.
@@ -25,24 +21,14 @@ fn is_repeated(helpers: &[u32], i: usize) -> bool
     requires { i < length helpers.now }
     ensures { result ≡ repeated_at helpers.now i }
 {
-    for j in 0..i {
-        if helpers[j] == helpers[i] {
-            return true;
-        }
-    }
-    false
+    helpers[..i].contains(&helpers[i])
 }
 
 // The first position of a number that stands at an earlier one too.
 fn first_repeated(helpers: &[u32]) -> Option<usize>
     ensures { result ≡ first_place (repeated_at helpers.now) 0 (length helpers.now) }
 {
-    for i in 0..helpers.len() {
-        if is_repeated(helpers, i) {
-            return Some(i);
-        }
-    }
-    None
+    (0..helpers.len()).find(|i| is_repeated(helpers, *i))
 }
 
 // Refuses a list that is not of t different holders of the scheme.

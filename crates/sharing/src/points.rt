@@ -101,12 +101,7 @@ pub(crate) fn inverse_number(q: usize, d: usize) -> usize
     requires below { d < q }
     ensures { result ≡ inverse_number q d }
 {
-    for e in 1..q {
-        if d * e % q == 1 {
-            return e;
-        }
-    }
-    0
+    (1..q).find(|e| d * *e % q == 1).unwrap_or(0)
 }
 
 // Multiplies `m` by the inverse of the point k less the point j, by way of `product` and `tmp`.

@@ -9,21 +9,14 @@ pub fn fill_zero<G: Group>(g: &G, to: &mut [G::Element])
     ensures { to.new ≡ tuple_zero (G.ops g.now) (length to.old) }
 {
     let zero = g.zero();
-    for i in 0..to.len() {
-        to[i] = zero;
-    }
+    to.fill_with(|| zero);
 }
 
 // The place of the first element that is not valid.
 pub fn first_invalid<G: Group>(g: &G, xs: &[G::Element]) -> Option<usize>
     ensures { result ≡ first_place (invalid_at (G.ops g.now) xs.now) 0 (length xs.now) }
 {
-    for i in 0..xs.len() {
-        if !g.is_valid(xs[i]) {
-            return Some(i);
-        }
-    }
-    None
+    xs.iter().position(|x| !g.is_valid(*x))
 }
 
 // Adds `from` to `to`.
