@@ -18,12 +18,7 @@ const LAST_EPOCH: u32 = 1000000;
 fn first_missing(ledger: &Ledger, helpers: &[u32]) -> Option<usize>
     ensures { result ≡ first_place (missing_at ledger.now.holders helpers.now) 0 (length helpers.now) }
 {
-    for i in 0..helpers.len() {
-        if !ledger.is_present(helpers[i]) {
-            return Some(i);
-        }
-    }
-    None
+    helpers.iter().position(|h| !ledger.is_present(*h))
 }
 
 impl<G: Group> Cabinet<G> {
