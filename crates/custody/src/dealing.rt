@@ -79,8 +79,8 @@ impl<G: Group> Cabinet<G> {
     {
         let n = self.scheme.n as u32;
         let (_, scratch) = working.split_at_mut(self.scheme.width());
-        for h in 0..n {
-            self.deal_present(change, h + 1, key, coefficients, shares, scratch)?;
+        for holder in 1..=n {
+            self.deal_present(change, holder, key, coefficients, shares, scratch)?;
         }
         Ok(())
     }
