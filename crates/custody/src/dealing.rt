@@ -78,6 +78,8 @@ impl<G: Group> Cabinet<G> {
     }
 
     // Deals a key, added or taken away, to every holder whose share is present.
+    //
+    // No struct for what is dealt: each caller would build it, and `deal_to` takes the parts.
     fn deal(
         &mut self,
         change: Change,
