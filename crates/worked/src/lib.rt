@@ -12,10 +12,7 @@ use sharing::fault::CabinetFault;
 pub fn refused<T: Drop>(res: Result<T, CabinetFault>) -> Option<(u32, usize)>
     ensures { MatchResult res (λ _. result ≡ None) (λ e. result ≡ Some (refusal e)) }
 {
-    match res {
-        Ok(_) => None,
-        Err(fault) => Some((fault.number(), fault.place())),
-    }
+    res.err().map(|fault| (fault.number(), fault.place()))
 }
 
 #[cfg(test)]
@@ -244,9 +241,7 @@ mod tests {
         accepted(tuple_at(&group, scheme, &low, 30, &shares, &mut tuple, &mut scratch))?;
         assert_eq!(rt; tuple[0], 539412174);
         assert_eq!(rt; tuple[29], 467285582);
-        for i in 0..30 {
-            assert_eq!(rt; tuple[i], shares[870 + i]);
-        }
+        assert_eq!(rt; tuple.as_slice(), &shares[870..]);
         Ok(())
     }
 
