@@ -30,10 +30,7 @@ mod tests {
     fn accepted<T, E: Drop>(res: Result<T, E>) -> Result<T, Fail>
         ensures { IfOk result (λ x. res ≡ Ok x) }
     {
-        match res {
-            Ok(x) => Ok(x),
-            Err(_) => Err(Fail::new("refused")),
-        }
+        res.map_err(|_| Fail::new("refused"))
     }
 
     #[test]
@@ -127,13 +124,11 @@ mod tests {
             Some((3, 900))
         );
         for modulus in [0, 1, 2147483648] {
-            match Sums::new(modulus) {
-                Ok(_) => return Err(Fail::new("accepted")),
-                Err(fault) => {
-                    assert_eq!(rt; fault.number(), 2);
-                    assert_eq!(rt; fault.place(), 0);
-                }
-            }
+            let Err(fault) = Sums::new(modulus) else {
+                return Err(Fail::new("accepted"));
+            };
+            assert_eq!(rt; fault.number(), 2);
+            assert_eq!(rt; fault.place(), 0);
         }
         for modulus in [2, 2147483647] {
             let group = accepted(Sums::new(modulus))?;
