@@ -22,10 +22,7 @@ pub extern "C" fn bench_sums_deposit(
     let Ok(group) = Sums::new(modulus) else {
         return false;
     };
-    match deposit_rounds(group, t, n, rounds, key, coefficients, shares, working) {
-        Ok(()) => true,
-        Err(_) => false,
-    }
+    deposit_rounds(group, t, n, rounds, key, coefficients, shares, working).is_ok()
 }
 
 // Whether a deposit and so many openings were accepted; `told` is then the key.
@@ -58,11 +55,9 @@ pub extern "C" fn bench_sums_open(
         shares,
         working,
     );
-    match opened {
-        Ok(key) => {
-            *told = key;
-            true
-        }
-        Err(_) => false,
-    }
+    let Ok(key) = opened else {
+        return false;
+    };
+    *told = key;
+    true
 }
