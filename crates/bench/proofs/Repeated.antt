@@ -1,5 +1,5 @@
 -- One more of the same call.
-use Rattle.std.proofs.Common.{◌≡◌, ℕ, Bool, MatchBool,  ◌+◌, ◌-◌, ◌*◌, List, length, Some, None, Ok, Err, Option, Result, sym, refl, ap, ◌∙◌, subst, add-one, MatchResult}
+use Rattle.std.proofs.Common.{◌≡◌, ℕ, Bool, MatchBool, ◌+◌, ◌-◌, ◌*◌, List, length, Some, None, Ok, Err, Option, Result, sym, refl, ap, ◌∙◌, subst, add-one, MatchResult}
 use Rattle.std.specs.Result.{is_ok}
 use Rattle.algebra.specs.Group.{GroupOps}
 use Rattle.algebra.specs.Tuples.{tuple_zero}

@@ -1,3 +1,4 @@
+// C calls by one name at each type, and is given plain parameters, a bool and `told`.
 ghost use Rattle.std.specs.Prelude.{length, MatchBool};
 ghost use Rattle.groups.specs.Sums.{sums, InRange};
 ghost use Rattle.bench.specs.Rounds.{Deposited, Undeposited, Opened, Unopened, SomeFault};
