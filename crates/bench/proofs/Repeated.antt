@@ -1,5 +1,6 @@
 -- One more of the same call.
-use Rattle.std.proofs.Common.{◌≡◌, ℕ, ◌+◌, ◌-◌, ◌*◌, List, length, Some, None, Ok, Err, Option, Result, sym, refl, ap, ◌∙◌, subst, add-one, MatchResult}
+use Rattle.std.proofs.Common.{◌≡◌, ℕ, Bool, MatchBool, ◌+◌, ◌-◌, ◌*◌, List, length, Some, None, Ok, Err, Option, Result, sym, refl, ap, ◌∙◌, subst, add-one, MatchResult}
+use Rattle.std.specs.Result.{is_ok}
 use Rattle.algebra.specs.Group.{GroupOps}
 use Rattle.algebra.specs.Tuples.{tuple_zero}
 use Rattle.sharing.specs.declared.fault.CabinetFault.{CabinetFault}
@@ -90,3 +91,8 @@ module _ {X E : Type 0} where
   pub so : (r : Result X E) (P P' : X → Type 0) (Q Q' : E → Type 0) → ((x : X) → P x → P' x) → ((e : E) → Q e → Q' e) → MatchResult r P Q → MatchResult r P' Q'
   so (Ok x) P P' Q Q' f g p = f x p
   so (Err e) P P' Q Q' f g q = g e q
+
+  -- a result as whether it is accepted
+  pub whether : (r : Result X E) {b : Bool} {P : X → Type 0} {Q : E → Type 0} (P' Q' : Type 0) → b ≡ is_ok r → MatchResult r P Q → ((x : X) → P x → P') → ((e : E) → Q e → Q') → MatchBool b P' Q'
+  whether (Ok x) P' Q' e h f g = subst (λ (z : Bool). MatchBool z P' Q') (sym e) (f x h)
+  whether (Err y) P' Q' e h f g = subst (λ (z : Bool). MatchBool z P' Q') (sym e) (g y h)

@@ -1,3 +1,4 @@
+// C calls by one name at each type, and is given plain parameters, a bool and `told`.
 ghost use Rattle.std.specs.Prelude.{length, MatchBool};
 ghost use Rattle.groups.specs.Blocks.{blocks};
 ghost use Rattle.bench.specs.Rounds.{Deposited, Undeposited, Opened, Unopened, SomeFault};
@@ -18,10 +19,7 @@ pub extern "C" fn bench_blocks_deposit(
 ) -> bool
     ensures { MatchBool result (Deposited blocks t n rounds key.now coefficients.now working.old shares.new) (SomeFault (Undeposited blocks t n rounds key.now coefficients.now working.old (length shares.old))) }
 {
-    match deposit_rounds(Blocks, t, n, rounds, *key, coefficients, shares, working) {
-        Ok(()) => true,
-        Err(_) => false,
-    }
+    deposit_rounds(Blocks, t, n, rounds, *key, coefficients, shares, working).is_ok()
 }
 
 // Whether a deposit and so many openings were accepted; `told` is then the key.
@@ -50,11 +48,9 @@ pub extern "C" fn bench_blocks_open(
         shares,
         working,
     );
-    match opened {
-        Ok(key) => {
-            *told = key;
-            true
-        }
-        Err(_) => false,
-    }
+    let Ok(key) = opened else {
+        return false;
+    };
+    *told = key;
+    true
 }

@@ -20,8 +20,8 @@ fn deposit_again<G: Group>(
     ensures same { SameCabinet cabinet.old cabinet.new }
     ensures state { MatchResult result (λ _. after (G.ops cabinet.old.group) cabinet.old.scheme working.old (dealing (depositing key) coefficients.now) rounds (state_of cabinet.old shares.old) ≡ state_of cabinet.new shares.new) (Stopped (G.ops cabinet.old.group) cabinet.old.scheme working.old (dealing (depositing key) coefficients.now) rounds (state_of cabinet.old shares.old)) }
 {
-    for done in 0..rounds {
-        let _ = cabinet.deposit(key, coefficients, shares, working)?;
+    for _done in 0..rounds {
+        cabinet.deposit(key, coefficients, shares, working)?;
     }
     Ok(())
 }
@@ -37,13 +37,15 @@ fn open_again<G: Group>(
     ensures { (step (G.ops cabinet.now.group) cabinet.now.scheme (state_of cabinet.now shares.now) working.old (opening helpers.now)).answer ≡ answered key_is result }
 {
     let key = cabinet.open(helpers, shares, working)?;
-    for done in 1..rounds {
-        let _ = cabinet.open(helpers, shares, working)?;
+    for _ in 1..rounds {
+        cabinet.open(helpers, shares, working)?;
     }
     Ok(key)
 }
 
 // Makes a cabinet and deposits the same key so many times.
+//
+// The parameters are those that C gives, and a struct of them would be built and read once.
 pub(crate) fn deposit_rounds<G: Group + Drop>(
     group: G,
     t: u32,

@@ -1,3 +1,4 @@
+// C calls by one name at each type, and is given plain parameters, a bool and `told`.
 ghost use Rattle.std.specs.Prelude.{length, MatchBool};
 ghost use Rattle.groups.specs.Sums.{sums, InRange};
 ghost use Rattle.bench.specs.Rounds.{Deposited, Undeposited, Opened, Unopened, SomeFault};
@@ -22,10 +23,7 @@ pub extern "C" fn bench_sums_deposit(
     let Ok(group) = Sums::new(modulus) else {
         return false;
     };
-    match deposit_rounds(group, t, n, rounds, key, coefficients, shares, working) {
-        Ok(()) => true,
-        Err(_) => false,
-    }
+    deposit_rounds(group, t, n, rounds, key, coefficients, shares, working).is_ok()
 }
 
 // Whether a deposit and so many openings were accepted; `told` is then the key.
@@ -58,11 +56,9 @@ pub extern "C" fn bench_sums_open(
         shares,
         working,
     );
-    match opened {
-        Ok(key) => {
-            *told = key;
-            true
-        }
-        Err(_) => false,
-    }
+    let Ok(key) = opened else {
+        return false;
+    };
+    *told = key;
+    true
 }

@@ -1,5 +1,5 @@
 -- A holder's share after dealing, present or not.
-use Rattle.std.proofs.Common.{◌≡◌, ℕ, ◌+◌, ◌-◌, ◌*◌, ◌<◌, ◌≤◌, Bool, true, T, List, length, None, Ok, Err, Option, Result, ap, ◌∙◌, arith, MatchResult}
+use Rattle.std.proofs.Common.{◌≡◌, ℕ, ◌+◌, ◌-◌, ◌*◌, ◌<◌, ◌≤◌, Bool, true, T, List, length, None, Ok, Err, Option, Result, ap, ◌∙◌, subst, arith, MatchResult}
 use Rattle.algebra.specs.Group.{GroupOps, GroupLaws}
 use Rattle.algebra.specs.Tuples.{all_valid, ok}
 use Rattle.algebra.specs.Space.{ok_length, ok_valid}
@@ -28,25 +28,28 @@ module _ {C : Type 0} (G : GroupOps C) (L : GroupLaws G) (d : Change) (w h : ℕ
   dealt_present Q (Ok u) o e v t f = λ p q s. f p q s ∙ row_credited G L d w h xs ys b t
   dealt_present Q (Err x) o e v t f = never_refused x tt (v ∙ ap verdict e)
 
--- one holder more is dealt to
 module _ {C : Type 0} (G : GroupOps C) (L : GroupLaws G) (s : Scheme) (d : Change) (hs : List Holder) (k : C) (cs : List C) where
   abbrev Out : List C → ℕ → List C → Type 0
   Out = Shared G L d (λ i. dealt G (s.q - 1) i k (s.t - 1) cs) (s.q - 1) s.n hs
 
-  pub deal_step : (xs₀ xs after : List C) (h : ℕ) → h < s.n → length xs ≡ s.n * (s.q - 1) → length cs ≡ (s.t - 1) * (s.q - 1)
-      → (T (all_valid G xs) → T (G.valid k) → T (all_valid G cs) → after ≡ put_row (s.q - 1) (h + 1 - 1) (credited G d (is_present hs (h + 1)) (dealt G (s.q - 1) (h + 1) k (s.t - 1) cs) (row_at (s.q - 1) (h + 1 - 1) xs)) xs)
-      → T (G.valid k) → T (all_valid G cs) → Out xs₀ h xs → Out xs₀ (h + 1) after
-  deal_step xs₀ xs after h l full count deal q r inv =
+  -- the holders below this one are dealt to, and then this one too
+  pub deal_step : (xs₀ xs after : List C) (holder : ℕ) → 1 ≤ holder → holder ≤ s.n → length xs ≡ s.n * (s.q - 1) → length cs ≡ (s.t - 1) * (s.q - 1)
+      → (T (all_valid G xs) → T (G.valid k) → T (all_valid G cs) → after ≡ put_row (s.q - 1) (holder - 1) (credited G d (is_present hs holder) (dealt G (s.q - 1) holder k (s.t - 1) cs) (row_at (s.q - 1) (holder - 1) xs)) xs)
+      → T (G.valid k) → T (all_valid G cs) → Out xs₀ (holder - 1) xs → Out xs₀ (holder + 1 - 1) after
+  deal_step xs₀ xs after holder low high full count deal q r inv =
       let w : ℕ = s.q - 1 in
+      let h : ℕ = holder - 1 in
       let wide : 0 < w = omega (arith, s.above, s.allowed) in
       let few : h < 30 = omega (arith, s.allowed) in
-      let e : h + 1 - 1 ≡ h = omega arith in
+      let e : holder ≡ h + 1 = omega arith in
+      let next : h + 1 ≡ holder + 1 - 1 = omega arith in
       let c : (s.t - 1) * w ≤ length cs = omega arith in
       let ok : (i : ℕ) → T (ok G w (dealt G w i k (s.t - 1) cs)) = λ i. dealt_ok G L w i (s.t - 1) k cs wide c q r in
-      share_step G L d (λ i. dealt G w i k (s.t - 1) cs) w s.n hs
+      subst (λ (i : ℕ). Out xs₀ i after) next
+      (share_step G L d (λ i. dealt G w i k (s.t - 1) cs) w s.n hs
       (λ i. ok_length G w (dealt G w i k (s.t - 1) cs) (ok i)) (λ i. ok_valid G w (dealt G w i k (s.t - 1) cs) (ok i))
-      xs₀ xs after h (is_present hs (h + 1)) l full (present_at hs h few)
-      (λ p. deal p q r ∙ ap (λ (j : ℕ). put_row w j (credited G d (is_present hs (h + 1)) (dealt G w (h + 1) k (s.t - 1) cs) (row_at w j xs)) xs) e) inv
+      xs₀ xs after h (is_present hs (h + 1)) (omega arith) full (present_at hs h few)
+      (λ p. deal p q r ∙ ap (λ (i : ℕ). put_row w h (credited G d (is_present hs i) (dealt G w i k (s.t - 1) cs) (row_at w h xs)) xs) e) inv)
 
   pub deal_end : (xs₀ xs : List C) (h : ℕ) → s.n ≤ h → length xs ≡ s.n * (s.q - 1) → Out xs₀ h xs → xs ≡ keyed_out G s d hs xs₀ k cs
   deal_end = share_end G L d (λ i. dealt G (s.q - 1) i k (s.t - 1) cs) (s.q - 1) s.n hs

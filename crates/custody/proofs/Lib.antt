@@ -2,3 +2,4 @@ pub mod Makings
 pub mod Dealt
 pub mod Keyed
 pub mod Rewritten
+pub mod Nonzero

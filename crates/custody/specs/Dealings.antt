@@ -1,7 +1,8 @@
 -- A dealing by its direction and by the key that is dealt, which for a refresh is zero.
-use Rattle.std.specs.Prelude.{◌≡◌, ℕ, ◌-◌, not, List, ◌∷◌, Option, nat_le}
+use Rattle.std.specs.Prelude.{◌≡◌, ℕ, ◌-◌, ◌*◌, T, not, List, ◌∷◌, Option, nat_le}
 use Rattle.algebra.specs.Group.{GroupOps}
-use Rattle.algebra.specs.Rows.{rows, flat}
+use Rattle.algebra.specs.Tuples.{all_valid}
+use Rattle.algebra.specs.Rows.{rows, row_at, put_row, flat}
 use Rattle.algebra.specs.Dealing.{dealt}
 use Rattle.sharing.specs.declared.fault.CabinetFault.{CabinetFault}
 use Rattle.sharing.specs.declared.fault.CabinetFault.TheVariants.{EpochLimit, InvalidKey}
@@ -9,14 +10,30 @@ use Rattle.sharing.specs.declared.scheme.Scheme.{Scheme}
 use Rattle.sharing.specs.declared.shares.Change.{Change}
 use Rattle.sharing.specs.Verdicts.{row}
 use Rattle.history.specs.declared.ledger.Holder.{Holder}
+use Rattle.history.specs.Ledgers.{is_present}
 use Rattle.history.specs.Calls.{State, Deal, dealing, Outcome}
 use Rattle.history.specs.Rules.{last_epoch, coefficient_rows}
-use Rattle.history.specs.Steps.{direction, key_of, shared_out, step}
+use Rattle.history.specs.Steps.{direction, key_of, credited, shared_out, step}
+
+-- the lengths that the scheme fixes: of the share memory, of so many tuples of working memory, and of the coefficients
+pub record Sized (s : Scheme) (tuples shares working coefficients : ℕ) : Type 0 where
+  pub full : shares ≡ s.n * (s.q - 1)
+  pub room : working ≡ tuples * (s.q - 1)
+  pub count : coefficients ≡ (s.t - 1) * (s.q - 1)
+
+-- what holds where the shares, the key and the coefficients are valid
+abbrev pub OfValid : {C : Type 0} → GroupOps C → List C → C → List C → Type 0 → Type 0
+OfValid G shares key cs P = T (all_valid G shares) → T (G.valid key) → T (all_valid G cs) → P
 
 module _ {C : Type 0} (G : GroupOps C) (s : Scheme) where
   -- an epoch to come, a valid key and the coefficients
   abbrev pub keyed_rows : ℕ → C → List C → List (Option CabinetFault)
   keyed_rows epoch key cs = row (nat_le last_epoch epoch) EpochLimit ∷ row (not (G.valid key)) InvalidKey ∷ coefficient_rows G s cs
+
+  -- the share memory after the holder h was dealt to, where its share is present
+  abbrev pub keyed_to : Change → List Holder → ℕ → List C → C → List C → List C
+  keyed_to change holders h shares key cs =
+      put_row (s.q - 1) (h - 1) (credited G change (is_present holders h) (dealt G (s.q - 1) h key (s.t - 1) cs) (row_at (s.q - 1) (h - 1) shares)) shares
 
   -- the share memory after the holders that are present were dealt to
   abbrev pub keyed_out : Change → List Holder → List C → C → List C → List C

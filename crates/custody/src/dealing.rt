@@ -1,17 +1,13 @@
-ghost use Rattle.std.specs.Prelude.{◌≡◌, ◌-◌, ◌*◌, ◌≤◌, T, ◌++◌, length, MatchResult};
-ghost use Rattle.algebra.specs.Tuples.{all_valid};
-ghost use Rattle.algebra.specs.Rows.{row_at, put_row};
-ghost use Rattle.algebra.specs.Dealing.{dealt};
+ghost use Rattle.std.specs.Prelude.{◌≡◌, ◌++◌, length, MatchResult};
 ghost use Rattle.sharing.specs.Verdicts.{first, verdict};
-ghost use Rattle.history.specs.Ledgers.{is_present};
 ghost use Rattle.history.specs.Calls.{depositing, withdrawing, refreshing, dealing, epoch_is, answered};
 ghost use Rattle.history.specs.Rules.{memory_rows};
-ghost use Rattle.history.specs.Steps.{credited, step};
+ghost use Rattle.history.specs.Steps.{step};
 ghost use Rattle.custody.specs.States.{state_of, SameCabinet};
-ghost use Rattle.custody.specs.Dealings.{keyed_rows, keyed_out, Deals};
+ghost use Rattle.custody.specs.Holders.{Known};
+ghost use Rattle.custody.specs.Dealings.{Sized, OfValid, keyed_rows, keyed_to, keyed_out, Deals};
 
 use crate::cabinet::Cabinet;
-use crate::checks::{check_deal, check_memory};
 use groups::group::Group;
 use sharing::fault::CabinetFault;
 use sharing::shares::{Change, deal_to};
@@ -28,14 +24,8 @@ impl<G: Group> Cabinet<G> {
     ) -> Result<(), CabinetFault>
         ensures { result ≡ verdict (first (memory_rows (G.ops self.now.group) self.now.scheme shares.now working ++ keyed_rows (G.ops self.now.group) self.now.scheme self.now.ledger.epoch key coefficients.now)) }
     {
-        check_memory(&self.group, self.scheme, shares, working)?;
-        check_deal(
-            &self.group,
-            self.scheme,
-            self.ledger.epoch,
-            key,
-            coefficients,
-        )
+        self.check_memory(shares, working)?;
+        self.check_deal(key, coefficients)
     }
 
     // Deals to one holder, where its share is present.
@@ -48,12 +38,9 @@ impl<G: Group> Cabinet<G> {
         shares: &mut [G::Element],
         scratch: &mut [G::Element],
     ) -> Result<(), CabinetFault>
-        requires low { 1 ≤ holder }
-        requires high { holder ≤ self.now.scheme.n }
-        requires full { length shares.old ≡ self.now.scheme.n * (self.now.scheme.q - 1) }
-        requires room { length scratch.old ≡ 3 * (self.now.scheme.q - 1) }
-        requires count { length coefficients.now ≡ (self.now.scheme.t - 1) * (self.now.scheme.q - 1) }
-        ensures { MatchResult result (λ _. T (all_valid (G.ops self.now.group) shares.old) → T ((G.ops self.now.group).valid key) → T (all_valid (G.ops self.now.group) coefficients.now) → shares.new ≡ put_row (self.now.scheme.q - 1) (holder - 1) (credited (G.ops self.now.group) change (is_present self.now.ledger.holders holder) (dealt (G.ops self.now.group) (self.now.scheme.q - 1) holder key (self.now.scheme.t - 1) coefficients.now) (row_at (self.now.scheme.q - 1) (holder - 1) shares.old)) shares.old) (λ _. ⊥) }
+        requires known { Known self.now.scheme holder }
+        requires sized { Sized self.now.scheme 3 (length shares.old) (length scratch.old) (length coefficients.now) }
+        ensures { MatchResult result (λ _. OfValid (G.ops self.now.group) shares.old key coefficients.now (shares.new ≡ keyed_to (G.ops self.now.group) self.now.scheme change self.now.ledger.holders holder shares.old key coefficients.now)) (λ _. ⊥) }
     {
         if !self.ledger.is_present(holder) {
             return Ok(());
@@ -79,20 +66,20 @@ impl<G: Group> Cabinet<G> {
         shares: &mut [G::Element],
         working: &mut [G::Element],
     ) -> Result<(), CabinetFault>
-        requires full { length shares.old ≡ self.now.scheme.n * (self.now.scheme.q - 1) }
-        requires room { length working.old ≡ 4 * (self.now.scheme.q - 1) }
-        requires count { length coefficients.now ≡ (self.now.scheme.t - 1) * (self.now.scheme.q - 1) }
-        ensures { MatchResult result (λ _. T (all_valid (G.ops self.now.group) shares.old) → T ((G.ops self.now.group).valid key) → T (all_valid (G.ops self.now.group) coefficients.now) → shares.new ≡ keyed_out (G.ops self.now.group) self.now.scheme change self.now.ledger.holders shares.old key coefficients.now) (λ _. ⊥) }
+        requires { Sized self.now.scheme 4 (length shares.old) (length working.old) (length coefficients.now) }
+        ensures { MatchResult result (λ _. OfValid (G.ops self.now.group) shares.old key coefficients.now (shares.new ≡ keyed_out (G.ops self.now.group) self.now.scheme change self.now.ledger.holders shares.old key coefficients.now)) (λ _. ⊥) }
     {
         let n = self.scheme.n as u32;
         let (_, scratch) = working.split_at_mut(self.scheme.width());
-        for h in 0..n {
-            self.deal_present(change, h + 1, key, coefficients, shares, scratch)?;
+        for holder in 1..=n {
+            self.deal_present(change, holder, key, coefficients, shares, scratch)?;
         }
         Ok(())
     }
 
     // Deals a key, added or taken away, to every holder whose share is present.
+    //
+    // No struct for what is dealt: each caller would build it, and `deal_to` takes the parts.
     fn deal(
         &mut self,
         change: Change,

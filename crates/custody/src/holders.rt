@@ -1,49 +1,33 @@
-ghost use Rattle.std.specs.Prelude.{◌≡◌, ◌+◌, ◌*◌, ◌≤◌, [], length};
-ghost use Rattle.algebra.specs.Tuples.{tuple_zero};
-ghost use Rattle.algebra.specs.Rows.{put_row};
+ghost use Rattle.std.specs.Prelude.{◌≡◌, ◌+◌, ◌-◌, ◌*◌, ◌≤◌, []};
 ghost use Rattle.sharing.specs.Verdicts.{verdict};
 ghost use Rattle.history.specs.Calls.{revoking, repairing, holder_is, answered};
 ghost use Rattle.history.specs.Rules.{fault};
 ghost use Rattle.history.specs.Steps.{step};
 ghost use Rattle.custody.specs.States.{state_of, SameCabinet};
-ghost use Rattle.custody.specs.Holders.{Recorded};
+ghost use Rattle.custody.specs.Holders.{Known, Recorded};
 
 use crate::cabinet::Cabinet;
-use crate::checks::{check_change, check_length, check_list, check_memory, check_valid};
 use groups::group::Group;
 use history::ledger::Holder;
 use sharing::fault::CabinetFault;
 use sharing::helpers::check_holder;
+use sharing::lengths::check_count;
 use sharing::shares::tuple_at;
 use sharing::tuples::fill_zero;
-
-// Sets the row h of the share memory to zeros, and leaves the other rows.
-fn clear_row<G: Group>(group: &G, width: usize, h: usize, shares: &mut [G::Element])
-    requires { h * width + width ≤ length shares.old }
-    ensures { shares.new ≡ put_row width h (tuple_zero (G.ops group.now) width) shares.old }
-{
-    let start = h * width;
-    fill_zero(group, &mut shares[start..start + width]);
-}
-
-// Writes a tuple to the row h of the share memory, and leaves the other rows.
-fn write_row<E: Copy>(width: usize, h: usize, tuple: &[E], shares: &mut [E])
-    requires tuple { length tuple.now ≡ width }
-    requires within { h * width + width ≤ length shares.old }
-    ensures { shares.new ≡ put_row width h tuple.now shares.old }
-{
-    let start = h * width;
-    shares[start..start + width].copy_from_slice(tuple);
-}
+use std::ops::Range;
 
 impl<G: Group> Cabinet<G> {
     // Refuses a revocation for the first row that applies.
     fn check_revoking(&self, holder: u32, shares: &[G::Element]) -> Result<(), CabinetFault>
         ensures { result ≡ verdict (fault (G.ops self.now.group) self.now.scheme (state_of self.now shares.now) 0 (revoking holder)) }
     {
-        check_length(self.scheme, shares.len())?;
-        check_valid(&self.group, self.scheme, shares)?;
-        check_change(self.scheme, &self.ledger, true, holder)
+        check_count(
+            CabinetFault::MemoryLength,
+            self.scheme.share_length(),
+            shares.len(),
+        )?;
+        self.check_valid(shares)?;
+        self.check_change(true, holder)
     }
 
     // Refuses a repair for the first row that applies.
@@ -56,9 +40,21 @@ impl<G: Group> Cabinet<G> {
     ) -> Result<(), CabinetFault>
         ensures { result ≡ verdict (fault (G.ops self.now.group) self.now.scheme (state_of self.now shares.now) working (repairing holder helpers.now)) }
     {
-        check_memory(&self.group, self.scheme, shares, working)?;
-        check_change(self.scheme, &self.ledger, false, holder)?;
-        check_list(self.scheme, &self.ledger, helpers)
+        self.check_memory(shares, working)?;
+        self.check_change(false, holder)?;
+        self.check_list(helpers)
+    }
+
+    // Where a holder's row stands in the share memory.
+    fn row(&self, holder: u32) -> Range<usize>
+        requires { Known self.now.scheme holder }
+        ensures start { result.start ≡ (holder - 1) * (self.now.scheme.q - 1) }
+        ensures end { result.end ≡ result.start + (self.now.scheme.q - 1) }
+        ensures within { result.end ≤ self.now.scheme.n * (self.now.scheme.q - 1) }
+    {
+        let width = self.scheme.width();
+        let start = (holder as usize - 1) * width;
+        start..start + width
     }
 
     // Makes a holder that is present a missing one: its share becomes zeros.
@@ -69,8 +65,8 @@ impl<G: Group> Cabinet<G> {
         ensures same { SameCabinet self.old self.new }
     {
         self.check_revoking(holder, shares)?;
-        let h = holder as usize - 1;
-        clear_row(&self.group, self.scheme.width(), h, shares);
+        let row = self.row(holder);
+        fill_zero(&self.group, &mut shares[row]);
         self.ledger.mark(holder, false);
         Ok(holder)
     }
@@ -102,7 +98,8 @@ impl<G: Group> Cabinet<G> {
             tuple,
             scratch,
         )?;
-        write_row(width, point - 1, tuple, shares);
+        let row = self.row(holder);
+        shares[row].copy_from_slice(tuple);
         fill_zero(&self.group, working);
         self.ledger.mark(holder, true);
         Ok(holder)

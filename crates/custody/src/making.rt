@@ -8,6 +8,7 @@ use crate::cabinet::Cabinet;
 use groups::group::Group;
 use history::ledger::Ledger;
 use sharing::fault::CabinetFault;
+use sharing::lengths::check_count;
 use sharing::scheme::Scheme;
 use sharing::tuples::fill_zero;
 
@@ -18,9 +19,7 @@ impl<G: Group> Cabinet<G> {
         ensures { MatchResult result (λ s. (s.t ≡ t) × (s.n ≡ n) × (shares ≡ s.n * (s.q - 1))) (Unmade t n shares) }
     {
         let scheme = Scheme::new(t, n)?;
-        if shares != scheme.share_length() {
-            return Err(CabinetFault::MemoryLength(scheme.share_length()));
-        }
+        check_count(CabinetFault::MemoryLength, scheme.share_length(), shares)?;
         Ok(scheme)
     }
 

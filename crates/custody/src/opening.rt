@@ -1,5 +1,6 @@
-ghost use Rattle.std.specs.Prelude.{◌≡◌, ◌<◌, T, length};
-ghost use Rattle.algebra.specs.Tuples.{all_valid};
+ghost use Rattle.std.specs.Prelude.{◌≡◌, ◌-◌, ◌<◌, T, length};
+ghost use Rattle.algebra.specs.Tuples.{all_valid, nonzero_at};
+ghost use Rattle.algebra.specs.Rows.{first_place};
 ghost use Rattle.sharing.specs.Verdicts.{verdict};
 ghost use Rattle.history.specs.Calls.{opening, key_is, answered};
 ghost use Rattle.history.specs.Rules.{fault};
@@ -7,24 +8,30 @@ ghost use Rattle.history.specs.Steps.{told, step};
 ghost use Rattle.custody.specs.States.{state_of};
 
 use crate::cabinet::Cabinet;
-use crate::checks::{check_list, check_memory};
 use groups::group::Group;
 use sharing::fault::CabinetFault;
 use sharing::shares::tuple_at;
 use sharing::tuples::fill_zero;
+
+// The first place above 0 of an element that is not zero.
+fn first_nonzero<G: Group>(group: &G, tuple: &[G::Element]) -> Option<usize>
+    requires { 0 < length tuple.now }
+    ensures { T (all_valid (G.ops group.now) tuple.now) → result ≡ first_place (nonzero_at (G.ops group.now) tuple.now) 1 (length tuple.now - 1) }
+{
+    let zero = group.zero();
+    let later = tuple[1..].iter().position(|x| !group.same(*x, zero));
+    later.map(|i| i + 1)
+}
 
 // What an opened tuple tells: its coordinate 0 is the key, and the others are zero.
 fn read_key<G: Group>(group: &G, tuple: &[G::Element]) -> Result<G::Element, CabinetFault>
     requires { 0 < length tuple.now }
     ensures { T (all_valid (G.ops group.now) tuple.now) → answered key_is result ≡ told (G.ops group.now) tuple.now }
 {
-    let zero = group.zero();
-    for i in 1..tuple.len() {
-        if !group.same(tuple[i], zero) {
-            return Err(CabinetFault::Disagreement(i));
-        }
+    match first_nonzero(group, tuple) {
+        Some(i) => Err(CabinetFault::Disagreement(i)),
+        None => Ok(tuple[0]),
     }
-    Ok(tuple[0])
 }
 
 impl<G: Group> Cabinet<G> {
@@ -37,8 +44,8 @@ impl<G: Group> Cabinet<G> {
     ) -> Result<(), CabinetFault>
         ensures { result ≡ verdict (fault (G.ops self.now.group) self.now.scheme (state_of self.now shares.now) working (opening helpers.now)) }
     {
-        check_memory(&self.group, self.scheme, shares, working)?;
-        check_list(self.scheme, &self.ledger, helpers)
+        self.check_memory(shares, working)?;
+        self.check_list(helpers)
     }
 
     // The key, from t helpers' shares.

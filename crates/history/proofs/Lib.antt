@@ -1,4 +1,3 @@
 pub mod Refusals
 pub mod SharedOut
-pub mod Telling
 pub mod Stepping

@@ -12,10 +12,7 @@ use sharing::fault::CabinetFault;
 pub fn refused<T: Drop>(res: Result<T, CabinetFault>) -> Option<(u32, usize)>
     ensures { MatchResult res (λ _. result ≡ None) (λ e. result ≡ Some (refusal e)) }
 {
-    match res {
-        Ok(_) => None,
-        Err(fault) => Some((fault.number(), fault.place())),
-    }
+    res.err().map(|fault| (fault.number(), fault.place()))
 }
 
 #[cfg(test)]
@@ -33,10 +30,7 @@ mod tests {
     fn accepted<T, E: Drop>(res: Result<T, E>) -> Result<T, Fail>
         ensures { IfOk result (λ x. res ≡ Ok x) }
     {
-        match res {
-            Ok(x) => Ok(x),
-            Err(_) => Err(Fail::new("refused")),
-        }
+        res.map_err(|_| Fail::new("refused"))
     }
 
     #[test]
@@ -130,13 +124,11 @@ mod tests {
             Some((3, 900))
         );
         for modulus in [0, 1, 2147483648] {
-            match Sums::new(modulus) {
-                Ok(_) => return Err(Fail::new("accepted")),
-                Err(fault) => {
-                    assert_eq!(rt; fault.number(), 2);
-                    assert_eq!(rt; fault.place(), 0);
-                }
-            }
+            let Err(fault) = Sums::new(modulus) else {
+                return Err(Fail::new("accepted"));
+            };
+            assert_eq!(rt; fault.number(), 2);
+            assert_eq!(rt; fault.place(), 0);
         }
         for modulus in [2, 2147483647] {
             let group = accepted(Sums::new(modulus))?;
@@ -244,9 +236,7 @@ mod tests {
         accepted(tuple_at(&group, scheme, &low, 30, &shares, &mut tuple, &mut scratch))?;
         assert_eq!(rt; tuple[0], 539412174);
         assert_eq!(rt; tuple[29], 467285582);
-        for i in 0..30 {
-            assert_eq!(rt; tuple[i], shares[870 + i]);
-        }
+        assert_eq!(rt; tuple.as_slice(), &shares[870..]);
         Ok(())
     }
 

@@ -16,7 +16,7 @@ loop-done-preserved g c =
     let len : length c.loop-done.working ≡ length c.args.working.now = omega arith in (
       (kept.0 ∙ same.0, kept.1 ∙ same.1, kept.2 ∙ same.2),
       again (ops C.group) (ops D.group) C.scheme D.scheme c.args.working.now c.loop-done.working _
-          (dealing (depositing c.args.key) c.args.coefficients.now) c.loop-done.done (state_of C c.args.shares.now)
+          (dealing (depositing c.args.key) c.args.coefficients.now) c.loop-done._done (state_of C c.args.shares.now)
           (state_of D c.loop-done.shares) (state_of c.deposit.new.self c.deposit.new.shares) _
           (ap ops same.0) same.1 len c.loop-done.invariant.1 c.deposit.ensures.step,
     )
@@ -38,10 +38,10 @@ returns-in_err-deposit g c =
       state = on_refusal c.from_residual.result _ _ f (p.1 ∙ ap Err p.2)
           (
           record {
-            round = c.loop-done.done;
+            round = c.loop-done._done;
             within = c.loop-done-test.true;
             answer = told_after (ops C.group) (ops D.group) C.scheme D.scheme c.args.working.now c.loop-done.working call
-                (after (ops C.group) C.scheme c.args.working.now call c.loop-done.done st) (state_of D c.loop-done.shares) (refused f)
+                (after (ops C.group) C.scheme c.args.working.now call c.loop-done._done st) (state_of D c.loop-done.shares) (refused f)
                 (ap ops same.0) same.1 len c.loop-done.invariant.1 (ap (λ o. o.answer) c.in_err-deposit.ensures.step);
           }
           );

@@ -12,7 +12,7 @@ returns-in_err-open g c =
     let st = state_of C c.args.shares.now in
     let f = c.in_err-open.field-0.0 in
     let p = err_from_is_err_and c.from_residual-in_err-open.result c.from_residual-in_err-open.ensures.1 in
-    let len : length c.loop-done.working ≡ length c.args.working.now = omega arith in
-    told_after G G C.scheme C.scheme c.args.working.now c.loop-done.working (opening c.args.helpers.now) st st (refused f) refl refl len refl
+    let len : length c.loop.working ≡ length c.args.working.now = omega arith in
+    told_after G G C.scheme C.scheme c.args.working.now c.loop.working (opening c.args.helpers.now) st st (refused f) refl refl len refl
     (ap (λ o. o.answer) c.in_err-open.ensures)
     ∙ sym (ap (answered key_is) (p.1 ∙ ap Err p.2))

@@ -1,10 +1,7 @@
-use Rattle.std.proofs.Common.{ℕ, length, subst}
-use Rattle.groups.specs.Sums.{sums}
-use Rattle.bench.specs.Rounds.{Undeposited}
+use Rattle.bench.proofs.Repeated.{whether}
 use Rattle.bench.proofs.sums.bench_sums_deposit.Goals as goal
 
-pub returns-in-Err : goal.returns-in-Err
-returns-in-Err c h =
-    let e = c.in-Err.field-0 in
-    let why = λ (m : ℕ). Undeposited (sums m) c.args.t c.args.n c.args.rounds c.args.key c.args.coefficients.now c.args.working.now (length c.args.shares.now) e in
-    (e, subst why c.in-Ok.ensures.1 c.in-Err.ensures)
+pub returns : goal.returns
+returns c =
+    let rounds = rw c.in-Ok.ensures.1 at c.deposit_rounds.ensures in
+    whether c.deposit_rounds.result _ _ c.is_ok.ensures.value rounds (λ x p. (c.in-Ok.ensures.0, p)) (λ e q h. (e, q))

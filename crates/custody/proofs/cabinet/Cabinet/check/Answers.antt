@@ -1,4 +1,4 @@
-use Rattle.std.proofs.Common.{sym, ◌∙◌}
+use Rattle.std.proofs.Common.{◌∙◌}
 use Rattle.std.proofs.lemmas.Result.{err_from_is_err_and}
 use Rattle.custody.specs.Making.{no_scheme}
 use Rattle.custody.proofs.Makings.{unroomed}
@@ -10,8 +10,9 @@ returns-in_err-scheme g c =
     let e = c.in_err-scheme.ensures in
     rw p.1 (no_scheme e.0 (p.2 ∙ e.1))
 
-pub returns-then-shares-share_length : goal.returns-then-shares-share_length
-returns-then-shares-share_length g c =
-    let e = c.in_ok-scheme.ensures in
-    unroomed c.args.t c.args.n c.args.shares c.share_length-then-shares-share_length.result c.in_ok-scheme.scheme e.0 e.1 c.share_length-then-shares-share_length.ensures
-    (λ same. c.if-shares-share_length.true (same ∙ c.share_length-then-shares-share_length.ensures ∙ sym c.share_length.ensures))
+pub returns-in_err-check_count : goal.returns-in_err-check_count
+returns-in_err-check_count g c =
+    let p = err_from_is_err_and c.from_residual-in_err-check_count.result c.from_residual-in_err-check_count.ensures.1 in
+    let s = c.in_ok-scheme.ensures in
+    let e = c.in_err-check_count.ensures in
+    rw p.1 (unroomed c.args.t c.args.n c.args.shares c.share_length.result c.in_ok-scheme.scheme s.0 s.1 c.share_length.ensures e.0 (p.2 ∙ e.1))

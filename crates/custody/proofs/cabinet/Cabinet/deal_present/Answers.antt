@@ -24,5 +24,5 @@ returns g c =
     dealt_present G (g.met.G.Group.laws c.args.self.now.group) c.args.change (s.q - 1) (c.args.holder - 1) c.args.key c.args.coefficients.now c.args.shares.now
     (dealt G (s.q - 1) c.args.holder c.args.key (s.t - 1) c.args.coefficients.now) c.deal_to.new.shares (is_present c.args.self.now.ledger.holders c.args.holder)
     _ c.deal_to.result (first (lengths ++ dealing))
-    (dealable s (length c.args.shares.now) (length c.args.scratch.now) (length c.args.coefficients.now) c.args.holder c.requires.full c.requires.room c.requires.count c.requires.low c.requires.high)
+    (dealable s (length c.args.shares.now) (length c.args.scratch.now) (length c.args.coefficients.now) c.args.holder c.requires.sized.full c.requires.sized.room c.requires.sized.count c.requires.known.0 c.requires.known.1)
     c.deal_to.ensures.verdict (sym c.if-not-is_present.ensures) c.deal_to.ensures.share

@@ -1,12 +1,9 @@
-use Rattle.std.proofs.Common.{ℕ, ◌-◌, [], Err, refl, ap, ◌∙◌}
+use Rattle.std.proofs.Common.{◌≤◌, length, [], Err, refl, ap, ◌∙◌, arith, rules}
 use Rattle.std.proofs.lemmas.Result.{err_from_is_err_and}
-use Rattle.algebra.specs.Tuples.{tuple_zero}
-use Rattle.algebra.specs.Rows.{put_row}
 use Rattle.history.specs.Calls.{revoking, holder_is}
 use Rattle.history.proofs.Refusals.{refused_step}
-use Rattle.history.proofs.Stepping.{revoking_fine, revoked}
+use Rattle.history.proofs.Stepping.{revoking_fine}
 use Rattle.custody.specs.States.{state_of}
-use Rattle.custody.proofs.Rewritten.{row_within}
 use Rattle.custody.proofs.cabinet.Cabinet.revoke.Goals as goal
 
 pub returns-in_err-check_revoking : goal.returns-in_err-check_revoking
@@ -19,19 +16,16 @@ returns-in_err-check_revoking g c =
       same = (refl, refl, refl);
     }
 
-pub clear_row-requires : goal.clear_row-requires
-clear_row-requires g c =
+pub offset_bounds-shares-row : goal.offset_bounds-shares-row
+offset_bounds-shares-row g c =
     let C = c.args.self.now in
-    let s = C.scheme in
-    let fine = revoking_fine (g.G.Group.ops C.group) (g.met.G.Group.laws C.group) s (state_of C c.args.shares.now) [] c.args.holder c.in_ok-check_revoking.ensures in
-    row_within c.args.holder s.n (s.q - 1) c.width.result _ fine.1.low fine.1.high c.width.ensures fine.0.full
+    let fine = revoking_fine (g.G.Group.ops C.group) (g.met.G.Group.laws C.group) C.scheme (state_of C c.args.shares.now) [] c.args.holder c.in_ok-check_revoking.ensures in
+    let l : c.row-row.result.start ≤ length c.args.shares.now = omega (arith, fine.0.full) in
+    search rules
 
-pub returns : goal.returns
-returns g c =
+pub slice_bounds-fill_zero-end : goal.slice_bounds-fill_zero-end
+slice_bounds-fill_zero-end g c =
     let C = c.args.self.now in
-    let cleared = λ (w : ℕ). put_row w (c.args.holder - 1) (tuple_zero (g.G.Group.ops C.group) w) c.args.shares.now in
-    record {
-      step = revoked (g.G.Group.ops C.group) (g.met.G.Group.laws C.group) C.scheme (state_of C c.args.shares.now) [] c.args.holder
-          c.clear_row.new.shares c.mark.new.self c.in_ok-check_revoking.ensures (c.clear_row.ensures ∙ ap cleared c.width.ensures) c.mark.ensures.known;
-      same = (refl, refl, refl);
-    }
+    let fine = revoking_fine (g.G.Group.ops C.group) (g.met.G.Group.laws C.group) C.scheme (state_of C c.args.shares.now) [] c.args.holder c.in_ok-check_revoking.ensures in
+    let l : c.row-row.result.end ≤ length c.args.shares.now = omega (arith, fine.0.full) in
+    search rules
