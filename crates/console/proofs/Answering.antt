@@ -1,12 +1,11 @@
 -- What the letters ask for, as the console answers it.
-use Rattle.std.proofs.Common.{◌≡◌, ℕ, zero, suc, ◌+◌, ◌≤◌, Bool, true, false, cond, eqb, ltb, List, [], ◌∷◌, ◌++◌, length, get_or, drop, is_some, IfOk, Some, None, Ok, Err, Option, Result, sym, refl, ap, ◌∙◌, subst, arith, MatchResult}
+use Rattle.std.proofs.Common.{◌≡◌, ℕ, zero, suc, ◌+◌, ◌≤◌, Bool, true, false, cond, eqb, ltb, List, [], ◌∷◌, ◌++◌, length, drop, is_some, Some, None, Ok, Err, Option, Result, sym, refl, ap, ◌∙◌, subst, arith}
 use Rattle.std.proofs.lemmas.Bool.{ltb-false}
 use Rattle.std.specs.Option.{option_map}
 use Rattle.lines.specs.declared.letter.Letter.{Letter}
 use Rattle.lines.specs.declared.fault.LineFault.{LineFault}
 use Rattle.lines.specs.declared.fault.LineFault.TheVariants.{Unreadable}
 use Rattle.lines.specs.Lines.{Read, good, bad, least, fine, front_digits, value_after, read_fields, after_letter, first_letter, read_line, Tells}
-use Rattle.groups.specs.declared.fault.GroupFault.{GroupFault}
 use Rattle.sharing.specs.declared.fault.CabinetFault.{CabinetFault}
 use Rattle.sharing.specs.declared.scheme.Scheme.{Scheme}
 use Rattle.history.specs.Calls.{Call}
@@ -14,7 +13,10 @@ use Rattle.console.specs.declared.held.Held.{Held}
 use Rattle.console.specs.declared.fault.ConsoleFault.{ConsoleFault}
 use Rattle.console.specs.declared.fault.ConsoleFault.TheVariants.{Line}
 use Rattle.console.specs.Held.{Holding, holding, Answers}
-use Rattle.console.specs.Responses.{carried, Fresh, Calls, Makes, Obeys, Follows}
+use Rattle.console.specs.declared.fault.Trouble.{Trouble}
+use Rattle.console.specs.declared.fault.Trouble.TheVariants.{Refused, Memory}
+use Rattle.console.specs.declared.request.Plan.{Plan}
+use Rattle.console.specs.Responses.{carried, Fresh, Calls, Makes, Obeys, Follows, IfAnswered}
 
 -- a call on the cabinet that is held
 pub answered_call : (o : Option Held) (h h' : Held) (c : Call ℕ) (r : Result ℕ ConsoleFault) (a : Result ℕ CabinetFault)
@@ -23,12 +25,10 @@ answered_call o h h' c r a e answers same =
     subst (λ (x : Option Held). Calls (option_map holding x) c r (Some (holding h'))) (sym e) (holding h', a, refl, same, answers)
 
 -- a cabinet is made where there is none
-pub made_cabinet : (o : Option Held) (ns : List ℕ) (s : Scheme) (a : Result Held GroupFault) (h : Held) (Q : GroupFault → Type 0) → false ≡ is_some o
-    → s.t ≡ get_or ns 2 0 → s.n ≡ get_or ns 3 0 → a ≡ Ok h → MatchResult a (λ x. Fresh (get_or ns 0 0) (get_or ns 1 0) s (holding x)) Q
-    → Makes (option_map holding o) ns (Ok 0) (Some (holding h))
-made_cabinet (Some x) ns s a h Q none et en e fresh = let z : ◌≡◌ {A = ℕ} 0 1 = cc in absurd (omega arith)
-made_cabinet None ns s a h Q none et en e fresh =
-    (refl, (holding h, s, refl, et, en, subst (λ (x : Result Held GroupFault). MatchResult x (λ y. Fresh (get_or ns 0 0) (get_or ns 1 0) s (holding y)) Q) e fresh))
+pub made_cabinet : (o : Option Held) (p : Plan) (s : Scheme) (h : Held) → false ≡ is_some o → s.t ≡ p.t → s.n ≡ p.n → Fresh p.kind p.modulus s (holding h)
+    → Makes (option_map holding o) p (Ok 0) (Some (holding h))
+made_cabinet (Some x) p s h none et en fresh = let z : ◌≡◌ {A = ℕ} 0 1 = cc in absurd (omega arith)
+made_cabinet None p s h none et en fresh = (refl, (holding h, s, refl, et, en, fresh))
 
 -- a line that is read has the fields that its letter cannot do without
 never_bad : (p : ℕ) (l : Letter) (ns : List ℕ) → bad p ≡ good l ns → ⊥
@@ -84,8 +84,8 @@ pub follow_bad : (r : Read) (f : LineFault) (ms : List ℕ) (before after : Opti
 follow_bad (good l ns) f ms before after a told e same = let t = told.0 in let z : ◌≡◌ {A = ℕ} 0 1 = cc in absurd (omega arith)
 follow_bad (bad p) f ms before after a told e same = let read : f ≡ Unreadable p = cc in (e ∙ ap (λ (x : LineFault). Err (Line x)) read, same)
 
-pub followed : {E : Type 0} (x : Read) (told : Result Letter LineFault) (k : Letter) (ms ns : List ℕ) (before after : Option Holding) (r : Result (Result ℕ ConsoleFault) E)
-    → Tells x told ms → told ≡ Ok k → ns ≡ ms → IfOk r (λ a. Obeys before k ns a after) → IfOk r (λ a. Follows before x a after)
-followed x told k ms ns before after (Ok a) tells e same obeys =
-    follow_good x k ms before after a (subst (λ (t : Result Letter LineFault). Tells x t ms) e tells) (subst (λ (l : List ℕ). Obeys before k l a after) same obeys)
-followed x told k ms ns before after (Err f) tells e same obeys = tt
+pub followed : (x : Read) (k : Letter) (ms : List ℕ) (before after : Option Holding) (r : Result ℕ Trouble)
+    → Tells x (Ok k) ms → IfAnswered r (λ a. Obeys before k ms a after) → IfAnswered r (λ a. Follows before x a after)
+followed x k ms before after (Ok a) tells obeys = follow_good x k ms before after (Ok a) tells obeys
+followed x k ms before after (Err (Refused f)) tells obeys = follow_good x k ms before after (Err f) tells obeys
+followed x k ms before after (Err (Memory e)) tells obeys = tt

@@ -1,8 +1,5 @@
 use Rattle.console.proofs.Answering.{made_cabinet}
 use Rattle.console.proofs.console.make.Goals as goal
 
-pub returns-in-Ok-2 : goal.returns-in-Ok-2
-returns-in-Ok-2 c = record {
-  made = made_cabinet c.args.held.now c.args.fields.now c.in-Ok.scheme c.in_ok-new.field-0 c.in-Ok-2.new _ c.if-is_some.ensures c.in-Ok.ensures.0 c.in-Ok.ensures.1 c.in-Ok-2.is c.in_ok-new.ensures;
-  kept = tt;
-}
+pub returns-clause-made : goal.returns-clause-made
+returns-clause-made c = made_cabinet c.args.held.now c.args.plan c.in_ok-scheme.scheme c.in_ok-make.field-0 c.if-is_some.ensures c.in_ok-scheme.ensures.0 c.in_ok-scheme.ensures.1 c.in_ok-make.ensures
