@@ -1,2 +1,1 @@
-pub mod Seated
 pub mod Answering

@@ -2,8 +2,7 @@
 use Rattle.std.specs.Prelude.{◌≡◌, ℕ, ◌≤◌, ◌⊎◌, List, Some, None, Ok, Err, Option, Result}
 use Rattle.lines.specs.declared.letter.Letter.{Letter}
 use Rattle.lines.specs.declared.fault.LineFault.TheVariants.{Unreadable}
-use Rattle.lines.specs.declared.answer.Answer.{Answer}
-use Rattle.lines.specs.declared.answer.Answer.TheVariants.{Number, Refused as Refusal}
+use Rattle.lines.specs.declared.answer.Refusal.{Refusal}
 use Rattle.lines.specs.Letters.{sign}
 use Rattle.lines.specs.Lines.{Read, good, bad, first_letter, read_line}
 use Rattle.groups.specs.declared.fault.GroupFault.TheVariants.{Modulus}
@@ -19,7 +18,7 @@ use Rattle.console.specs.declared.fault.Trouble.TheVariants.{Refused, Memory}
 use Rattle.console.specs.declared.request.Kind.{Kind}
 use Rattle.console.specs.declared.request.Kind.TheVariants.{Sums, Units}
 use Rattle.console.specs.declared.request.Plan.{Plan}
-use Rattle.console.specs.Faults.{refusal}
+use Rattle.console.specs.Faults.{refusal_of}
 use Rattle.console.specs.Seats.{New}
 use Rattle.console.specs.Requests.{Asking, making, calling, asking_of}
 use Rattle.console.specs.Held.{Holding, over_sums, over_units, sums_of, units_of, Answers}
@@ -71,9 +70,9 @@ Follows before (bad p) r after = (r ≡ Err (Line (Unreadable p))) × (after ≡
 Follows before (good l ns) r after = Obeys before l ns r after
 
 -- the number, or the fault's number and place
-abbrev pub shown : Result ℕ ConsoleFault → Answer
-shown (Ok n) = Number n
-shown (Err f) = Refusal (refusal f).0 (refusal f).1
+abbrev pub shown : Result ℕ ConsoleFault → Result ℕ Refusal
+shown (Ok n) = Ok n
+shown (Err f) = Err (refusal_of f)
 
 -- the letter that the answer begins with: the line's own, or a question mark
 abbrev pub heading_of : Option Letter → ℕ
@@ -81,7 +80,7 @@ heading_of (Some l) = sign l
 heading_of None = 63
 
 -- the answer to a line
-pub record Responds (before : Option Holding) (line : List ℕ) (letter : ℕ) (answer : Answer) (after : Option Holding) : Type 0 where
+pub record Responds (before : Option Holding) (line : List ℕ) (letter : ℕ) (answer : Result ℕ Refusal) (after : Option Holding) : Type 0 where
   pub heading : letter ≡ heading_of (first_letter line)
   pub follows : (r : Result ℕ ConsoleFault) × (answer ≡ shown r) × Follows before (read_line line) r after
 

@@ -8,8 +8,9 @@ ghost use Rattle.console.specs.Responses.{heading_of, IfAnswered, OnMemory, Call
 use crate::fault::{ConsoleFault, Trouble};
 use crate::held::Held;
 use crate::request::{Call, Plan, Request};
-use lines::answer::{Answer, AnswerLine};
-use lines::parse::{letter, parse};
+use lines::answer::{AnswerLine, Refusal};
+use lines::letter::Letter;
+use lines::parse::parse;
 use sharing::scheme::Scheme;
 use std::alloc::{AllocError, Global};
 
@@ -18,11 +19,12 @@ fn heading(line: &[u8]) -> char
     ensures { result ≡ heading_of (first_letter line.now) }
 {
     line.first()
-        .and_then(|byte| letter(*byte))
-        .map_or('?', |letter| letter.shown())
+        .and_then(|byte| Letter::try_from(*byte).ok())
+        .map_or('?', char::from)
 }
 
 // A cabinet where there is none yet.
+#[tactic(auto, using(crate::proofs::Answering::made_cabinet))]
 fn make(heap: Global, held: &mut Option<Held>, plan: Plan) -> Result<u32, Trouble>
     ensures made { IfAnswered result (λ a. Makes (option_map holding held.old) plan a (option_map holding held.new)) }
     ensures kept { OnMemory result (held.new ≡ held.old) }
@@ -75,11 +77,12 @@ impl Console {
     }
 
     // Does what a line says.
+    #[tactic(auto, using(crate::proofs::Answering::enough))]
     fn follow(&mut self, heap: Global, line: &[u8]) -> Result<u32, Trouble>
         ensures follows { IfAnswered result (λ a. Follows (option_map holding self.old.held) (read_line line.now) a (option_map holding self.new.held)) }
         ensures kept { OnMemory result (self.new.held ≡ self.old.held) }
     {
-        let letter = parse(line, &mut self.fields)??;
+        let letter = parse(line, &mut self.fields)?;
         let request = Request::new(letter, self.fields.as_slice());
         obey(heap, &mut self.held, request)
     }
@@ -93,14 +96,11 @@ impl Console {
         match self.follow(heap, line) {
             Ok(number) => Ok(AnswerLine {
                 letter,
-                answer: Answer::Number(number),
+                answer: Ok(number),
             }),
             Err(Trouble::Refused(fault)) => Ok(AnswerLine {
                 letter,
-                answer: Answer::Refused {
-                    number: fault.number(),
-                    place: fault.place(),
-                },
+                answer: Err(Refusal::from(fault)),
             }),
             Err(Trouble::Memory(error)) => Err(error),
         }

@@ -1,9 +1,10 @@
 ghost use Rattle.std.specs.Prelude.{◌≡◌};
 ghost use Rattle.console.specs.declared.fault.Trouble.TheVariants.{Refused, Memory};
-ghost use Rattle.console.specs.Faults.{refusal, from_line, from_group, from_cabinet};
+ghost use Rattle.console.specs.Faults.{refusal, refusal_of, from_line, from_group, from_cabinet, from_parse};
 
 use groups::fault::GroupFault;
-use lines::fault::LineFault;
+use lines::answer::Refusal;
+use lines::fault::{LineFault, ParseError};
 use sharing::fault::CabinetFault;
 use std::alloc::AllocError;
 
@@ -69,6 +70,18 @@ impl From<CabinetFault> for ConsoleFault {
     }
 }
 
+// A fault as it is answered: its number and its place.
+impl From<ConsoleFault> for Refusal {
+    ghost from_gives = { λ f r. r ≡ refusal_of f };
+
+    fn from(fault: ConsoleFault) -> Refusal {
+        Refusal {
+            number: fault.number(),
+            place: fault.place(),
+        }
+    }
+}
+
 // Why a line is not done: it is refused, or memory runs out.
 #[derive(Clone, Copy)]
 pub(crate) enum Trouble {
@@ -93,11 +106,14 @@ impl From<ConsoleFault> for Trouble {
     }
 }
 
-impl From<LineFault> for Trouble {
-    ghost from_gives = { λ e t. t ≡ Refused (from_line e) };
+impl From<ParseError> for Trouble {
+    ghost from_gives = { λ e t. t ≡ from_parse e };
 
-    fn from(value: LineFault) -> Trouble {
-        Trouble::Refused(ConsoleFault::from(value))
+    fn from(value: ParseError) -> Trouble {
+        match value {
+            ParseError::Line(fault) => Trouble::Refused(ConsoleFault::from(fault)),
+            ParseError::Memory(error) => Trouble::Memory(error),
+        }
     }
 }
 
