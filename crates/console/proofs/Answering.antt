@@ -1,24 +1,15 @@
 -- What the letters ask for, as the console answers it.
-use Rattle.std.proofs.Common.{◌≡◌, ℕ, zero, suc, ◌+◌, ◌≤◌, Bool, true, false, cond, eqb, ltb, List, [], ◌∷◌, length, drop, is_some, Some, None, Ok, Option, Result, sym, refl, subst}
+use Rattle.std.proofs.Common.{◌≡◌, ℕ, zero, suc, ◌+◌, ◌≤◌, Bool, true, false, cond, eqb, ltb, List, [], ◌∷◌, length, drop, is_some, Some, None, Ok, Option, Result, refl}
 use Rattle.std.proofs.lemmas.Bool.{ltb-false}
 use Rattle.std.specs.Option.{option_map}
 use Rattle.lines.specs.declared.letter.Letter.{Letter}
 use Rattle.lines.specs.Lines.{Read, good, bad, least, fine, front_digits, read_fields, after_letter, first_letter, read_line, Tells}
-use Rattle.sharing.specs.declared.fault.CabinetFault.{CabinetFault}
 use Rattle.sharing.specs.declared.scheme.Scheme.{Scheme}
-use Rattle.history.specs.Calls.{Call}
 use Rattle.console.specs.declared.held.Held.{Held}
-use Rattle.console.specs.declared.fault.ConsoleFault.{ConsoleFault}
-use Rattle.console.specs.Held.{Holding, holding, Answers}
+use Rattle.console.specs.Held.{Holding, holding}
 use Rattle.console.specs.declared.fault.Trouble.{Trouble}
 use Rattle.console.specs.declared.request.Plan.{Plan}
-use Rattle.console.specs.Responses.{carried, Fresh, Calls, Makes, Obeys, Follows, IfAnswered}
-
--- a call on the cabinet that is held
-pub answered_call : (o : Option Held) (h h' : Held) (c : Call ℕ) (r : Result ℕ ConsoleFault) (a : Result ℕ CabinetFault)
-    → o ≡ Some h → Answers (holding h) c a (holding h') → r ≡ carried a → Calls (option_map holding o) c r (Some (holding h'))
-answered_call o h h' c r a e answers same =
-    subst (λ (x : Option Held). Calls (option_map holding x) c r (Some (holding h'))) (sym e) (holding h', a, refl, same, answers)
+use Rattle.console.specs.Responses.{Fresh, Makes, Obeys, Follows, IfAnswered}
 
 -- a cabinet is made where there is none
 pub made_cabinet : (o : Option Held) (p : Plan) (s : Scheme) (h : Held) → false ≡ is_some o → s.t ≡ p.t → s.n ≡ p.n → Fresh p.kind p.modulus s (holding h)

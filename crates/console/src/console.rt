@@ -18,9 +18,10 @@ use std::alloc::{AllocError, Global};
 fn heading(line: &[u8]) -> char
     ensures { result ≡ heading_of (first_letter line.now) }
 {
-    line.first()
-        .and_then(|byte| Letter::try_from(*byte).ok())
-        .map_or('?', char::from)
+    match line.first() {
+        Some(byte) => Letter::try_from(*byte).map_or('?', char::from),
+        None => '?',
+    }
 }
 
 // A cabinet where there is none yet.
@@ -83,7 +84,7 @@ impl Console {
         ensures kept { OnMemory result (self.new.held ≡ self.old.held) }
     {
         let letter = parse(line, &mut self.fields)?;
-        let request = Request::new(letter, self.fields.as_slice());
+        let request = Request::new(letter, &self.fields);
         obey(heap, &mut self.held, request)
     }
 

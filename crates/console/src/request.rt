@@ -51,7 +51,7 @@ pub enum Request<'a> {
 }
 
 impl<'a> Request<'a> {
-    // What a letter asks for with these numbers.
+    // What a letter asks for with these numbers, which are no fewer than it needs.
     pub(crate) fn new(letter: Letter, fields: &'a [u32]) -> Self
         requires { least letter ≤ length fields.now }
         ensures { asked result ≡ asking_of letter fields.now }

@@ -26,7 +26,7 @@ impl<G: Group<Element = u32>> Seat<G> {
     {
         let mut shares = vec![in heap; 0u32; scheme.share_length()]?;
         let working = vec![in heap; 0u32; scheme.working_length()]?;
-        let cabinet = Cabinet::make(group, scheme, 0, shares.as_mut_slice());
+        let cabinet = Cabinet::make(group, scheme, 0, &mut shares);
         Ok(Seat {
             cabinet,
             shares,

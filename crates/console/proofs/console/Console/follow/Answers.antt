@@ -8,4 +8,4 @@ use Rattle.console.proofs.console.Console.follow.Goals as goal
 pub returns-clause-follows : goal.returns-clause-follows
 returns-clause-follows c =
     followed (read_line c.args.line.now) c.in_ok-letter.letter (vec_items c.parse.new.fields) (option_map holding c.args.self.now.held) (option_map holding c.obey.new.held) c.obey.result
-    c.in_ok-letter.ensures.tells (rw c.as_slice.ensures.value at (rw c.new-request.ensures at c.obey.ensures.does))
+    c.in_ok-letter.ensures.tells (rw c.deref.ensures.value at (rw c.new-request.ensures at c.obey.ensures.does))
