@@ -3,29 +3,13 @@
 
 use console::console::Console;
 use lines::reader::LineReader;
-use std::alloc::AllocError;
-use std::io::Read;
+use std::io::{BufReader, Read};
 
 // Answers the line that the reader holds, and makes the reader ready for the next.
 fn answer(rt: &HostRuntime, console: &mut Console, reader: &mut LineReader) -> anyhow::Result<()> {
     let line = console.respond(rt.alloc(), reader.line())?;
     reader.clear();
-    rt.println(line)?;
-    Ok(())
-}
-
-// Answers every line that ends in these bytes.
-fn take(
-    rt: &HostRuntime,
-    console: &mut Console,
-    reader: &mut LineReader,
-    bytes: &[u8],
-) -> anyhow::Result<()> {
-    for byte in bytes {
-        if reader.feed(*byte)? {
-            answer(rt, console, reader)?;
-        }
-    }
+    println!(rt; "{line}")?;
     Ok(())
 }
 
@@ -33,14 +17,10 @@ fn take(
 fn run(rt: &HostRuntime) -> anyhow::Result<()> {
     let mut console = Console::new(rt.alloc());
     let mut reader = LineReader::new(rt.alloc());
-    let mut input = rt.stdin();
-    let mut buffer = [0u8; 4096];
-    for _ in 0..u64::MAX {
-        let count = input.read(&mut buffer)?;
-        if count == 0 {
-            break;
+    for byte in BufReader::new(rt.alloc(), rt.stdin())?.bytes() {
+        if reader.feed(byte?)? {
+            answer(rt, &mut console, &mut reader)?;
         }
-        take(rt, &mut console, &mut reader, &buffer[0..count])?;
     }
     if !reader.is_empty() {
         answer(rt, &mut console, &mut reader)?;

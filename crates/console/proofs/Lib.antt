@@ -1,3 +1,1 @@
-pub mod Seated
-pub mod Replies
 pub mod Answering

@@ -2,7 +2,7 @@
 use Rattle.std.specs.Prelude.{◌≡◌, ℕ, List, vec_items}
 use Rattle.sharing.specs.declared.scheme.Scheme.{Scheme}
 use Rattle.algebra.specs.Group.{GroupOps}
-use Rattle.history.specs.Calls.{State, Call, Answer, Outcome}
+use Rattle.history.specs.Calls.{State, Call, Outcome}
 use Rattle.history.specs.Steps.{made, step}
 use Rattle.custody.specs.States.{state_of}
 use Rattle.console.specs.declared.seat.Seat.{Seat}
@@ -30,10 +30,6 @@ moved k o = record { group = k.group; scheme = k.scheme; number = k.number; stat
 -- what a call on it answers and leaves
 abbrev pub outcome : {K : Type 0} → (K → GroupOps ℕ) → Kept K → Call ℕ → Outcome ℕ
 outcome ops k c = step (ops k.group) k.scheme k.state k.working c
-
--- the call c was made: it answered a, and after is what it left
-abbrev pub Called : {K : Type 0} → (K → GroupOps ℕ) → Kept K → Call ℕ → Answer ℕ → Kept K → Type 0
-Called ops before c a after = (a ≡ (outcome ops before c).answer) × (after ≡ moved before (outcome ops before c))
 
 -- a new cabinet of the group g, with the number 0
 pub record New {K : Type 0} (ops : K → GroupOps ℕ) (g : K) (s : Scheme) (k : Kept K) : Type 0 where

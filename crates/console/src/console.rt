@@ -1,131 +1,61 @@
-ghost use Rattle.std.specs.Prelude.{◌≡◌, ◌≤◌, length, IfOk, None, MatchResult, OnErr, ◌≢◌};
+ghost use Rattle.std.specs.Prelude.{◌≡◌, IfOk, None, OnErr};
 ghost use Rattle.std.specs.Option.{option_map};
-ghost use Rattle.lines.specs.declared.letter.Letter.TheVariants.{Make};
-ghost use Rattle.lines.specs.Lines.{first_letter, least, read_line};
-ghost use Rattle.groups.specs.declared.fault.GroupFault.TheVariants.{Modulus};
-ghost use Rattle.console.specs.Requests.{call_of};
+ghost use Rattle.lines.specs.Lines.{first_letter, read_line};
+ghost use Rattle.console.specs.Requests.{asked, called};
 ghost use Rattle.console.specs.Held.{holding};
-ghost use Rattle.console.specs.Responses.{heading_of, shown, InRange, Fresh, Calls, Makes, Obeys, Follows, Responds};
+ghost use Rattle.console.specs.Responses.{heading_of, IfAnswered, OnMemory, Calls, Makes, Does, Follows, Responds};
 
-use crate::fault::ConsoleFault;
+use crate::fault::{ConsoleFault, Trouble};
 use crate::held::Held;
-use crate::seat::Seat;
-use groups::fault::GroupFault;
-use groups::sums::Sums;
-use groups::units::Units;
-use lines::answer::{Answer, AnswerLine};
+use crate::request::{Call, Plan, Request};
+use lines::answer::{AnswerLine, Refusal};
 use lines::letter::Letter;
-use lines::parse::{letter, parse};
+use lines::parse::parse;
 use sharing::scheme::Scheme;
 use std::alloc::{AllocError, Global};
-
-// The group of units, as K names it; the other is the group of sums.
-const UNITS: u32 = 3;
 
 // The letter that the answer to a line begins with.
 fn heading(line: &[u8]) -> char
     ensures { result ≡ heading_of (first_letter line.now) }
 {
-    let [byte, ..] = line else {
-        return '?';
-    };
-    match letter(*byte) {
-        Some(letter) => letter.shown(),
+    match line.first() {
+        Some(byte) => Letter::try_from(*byte).map_or('?', char::from),
         None => '?',
     }
 }
 
-// A result as it is answered.
-fn answer(res: Result<u32, ConsoleFault>) -> Answer
-    ensures { result ≡ shown res }
-{
-    match res {
-        Ok(number) => Answer::Number(number),
-        Err(fault) => Answer::Refused {
-            number: fault.number(),
-            place: fault.place(),
-        },
-    }
-}
-
-// A new cabinet of the group that K names, in memory of its own.
-fn seat(
-    heap: Global,
-    group: u32,
-    modulus: u32,
-    scheme: Scheme,
-) -> Result<Result<Held, GroupFault>, AllocError>
-    ensures { IfOk result (λ a. MatchResult a (λ h. Fresh group modulus scheme (holding h)) (λ e. (InRange group modulus → ⊥) × (e ≡ Modulus))) }
-{
-    if group == UNITS {
-        return match Units::new(modulus) {
-            Ok(units) => Ok(Ok(Held::Units(Seat::make(heap, units, scheme)?))),
-            Err(fault) => Ok(Err(fault)),
-        };
-    }
-    match Sums::new(modulus) {
-        Ok(sums) => Ok(Ok(Held::Sums(Seat::make(heap, sums, scheme)?))),
-        Err(fault) => Ok(Err(fault)),
-    }
-}
-
-// A cabinet where there is none yet, from the group, the modulus, t and n.
-fn make(
-    heap: Global,
-    held: &mut Option<Held>,
-    fields: &[u32],
-) -> Result<Result<u32, ConsoleFault>, AllocError>
-    requires { 4 ≤ length fields.now }
-    ensures made { IfOk result (λ a. Makes (option_map holding held.old) fields.now a (option_map holding held.new)) }
-    ensures kept { OnErr result (held.new ≡ held.old) }
+// A cabinet where there is none yet.
+#[tactic(auto, using(crate::proofs::Answering::made_cabinet))]
+fn make(heap: Global, held: &mut Option<Held>, plan: Plan) -> Result<u32, Trouble>
+    ensures made { IfAnswered result (λ a. Makes (option_map holding held.old) plan a (option_map holding held.new)) }
+    ensures kept { OnMemory result (held.new ≡ held.old) }
 {
     if held.is_some() {
-        return Ok(Err(ConsoleFault::CabinetExists));
+        return Err(Trouble::from(ConsoleFault::CabinetExists));
     }
-    let scheme = match Scheme::new(fields[2], fields[3]) {
-        Ok(scheme) => scheme,
-        Err(fault) => return Ok(Err(ConsoleFault::from(fault))),
-    };
-    match seat(heap, fields[0], fields[1], scheme)? {
-        Ok(new) => {
-            *held = Some(new);
-            Ok(Ok(0))
-        }
-        Err(fault) => Ok(Err(ConsoleFault::from(fault))),
-    }
+    let scheme = Scheme::new(plan.t, plan.n)?;
+    *held = Some(Held::make(heap, plan.kind, plan.modulus, scheme)?);
+    Ok(0)
 }
 
 // A call on the cabinet that is held.
-fn call(held: &mut Option<Held>, letter: Letter, fields: &[u32]) -> Result<u32, ConsoleFault>
-    requires call { letter ≢ Make }
-    requires enough { least letter ≤ length fields.now }
-    ensures { Calls (option_map holding held.old) (call_of letter fields.now) result (option_map holding held.new) }
+fn call(held: &mut Option<Held>, call: Call) -> Result<u32, ConsoleFault>
+    ensures { Calls (option_map holding held.old) (called call.entry) result (option_map holding held.new) }
 {
     match held {
-        Some(held) => Ok(held.obey(letter, fields)?),
+        Some(held) => Ok(held.obey(call)?),
         None => Err(ConsoleFault::NoCabinet),
     }
 }
 
-// Does what a letter asks for with these numbers.
-fn obey(
-    heap: Global,
-    held: &mut Option<Held>,
-    letter: Letter,
-    fields: &[u32],
-) -> Result<Result<u32, ConsoleFault>, AllocError>
-    requires { least letter ≤ length fields.now }
-    ensures obeys { IfOk result (λ a. Obeys (option_map holding held.old) letter fields.now a (option_map holding held.new)) }
-    ensures kept { OnErr result (held.new ≡ held.old) }
+// Does what is asked for.
+fn obey(heap: Global, held: &mut Option<Held>, request: Request) -> Result<u32, Trouble>
+    ensures does { IfAnswered result (λ a. Does (option_map holding held.old) (asked request.entry) a (option_map holding held.new)) }
+    ensures kept { OnMemory result (held.new ≡ held.old) }
 {
-    match letter {
-        Letter::Make => make(heap, held, fields),
-        Letter::Deposit
-        | Letter::Withdraw
-        | Letter::Refresh
-        | Letter::Revoke
-        | Letter::Repair
-        | Letter::Open => Ok(call(held, letter, fields)),
+    match request {
+        Request::Make(plan) => make(heap, held, plan),
+        Request::Call(asked) => Ok(call(held, asked)?),
     }
 }
 
@@ -148,14 +78,14 @@ impl Console {
     }
 
     // Does what a line says.
-    fn follow(&mut self, heap: Global, line: &[u8]) -> Result<Result<u32, ConsoleFault>, AllocError>
-        ensures follows { IfOk result (λ a. Follows (option_map holding self.old.held) (read_line line.now) a (option_map holding self.new.held)) }
-        ensures kept { OnErr result (self.new.held ≡ self.old.held) }
+    #[tactic(auto, using(crate::proofs::Answering::enough))]
+    fn follow(&mut self, heap: Global, line: &[u8]) -> Result<u32, Trouble>
+        ensures follows { IfAnswered result (λ a. Follows (option_map holding self.old.held) (read_line line.now) a (option_map holding self.new.held)) }
+        ensures kept { OnMemory result (self.new.held ≡ self.old.held) }
     {
-        match parse(line, &mut self.fields)? {
-            Ok(letter) => obey(heap, &mut self.held, letter, self.fields.as_slice()),
-            Err(fault) => Ok(Err(ConsoleFault::from(fault))),
-        }
+        let letter = parse(line, &mut self.fields)?;
+        let request = Request::new(letter, &self.fields);
+        obey(heap, &mut self.held, request)
     }
 
     // Does what a line says, and answers it. An `Err` is want of memory, and changes no cabinet.
@@ -164,8 +94,16 @@ impl Console {
         ensures kept { OnErr result (self.new.held ≡ self.old.held) }
     {
         let letter = heading(line);
-        let result = self.follow(heap, line)?;
-        let answer = answer(result);
-        Ok(AnswerLine { letter, answer })
+        match self.follow(heap, line) {
+            Ok(number) => Ok(AnswerLine {
+                letter,
+                answer: Ok(number),
+            }),
+            Err(Trouble::Refused(fault)) => Ok(AnswerLine {
+                letter,
+                answer: Err(Refusal::from(fault)),
+            }),
+            Err(Trouble::Memory(error)) => Err(error),
+        }
     }
 }

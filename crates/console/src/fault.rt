@@ -1,9 +1,12 @@
 ghost use Rattle.std.specs.Prelude.{◌≡◌};
-ghost use Rattle.console.specs.Faults.{refusal, from_line, from_group, from_cabinet};
+ghost use Rattle.console.specs.declared.fault.Trouble.TheVariants.{Refused, Memory};
+ghost use Rattle.console.specs.Faults.{refusal, refusal_of, from_line, from_group, from_cabinet, from_parse};
 
 use groups::fault::GroupFault;
-use lines::fault::LineFault;
+use lines::answer::Refusal;
+use lines::fault::{LineFault, ParseError};
 use sharing::fault::CabinetFault;
+use std::alloc::AllocError;
 
 // Why the console refuses a line. The faults of the layers below are carried whole.
 #[derive(Clone, Copy)]
@@ -64,5 +67,68 @@ impl From<CabinetFault> for ConsoleFault {
 
     fn from(value: CabinetFault) -> ConsoleFault {
         ConsoleFault::Cabinet(value)
+    }
+}
+
+// A fault as it is answered: its number and its place.
+impl From<ConsoleFault> for Refusal {
+    ghost from_gives = { λ f r. r ≡ refusal_of f };
+
+    fn from(fault: ConsoleFault) -> Refusal {
+        Refusal {
+            number: fault.number(),
+            place: fault.place(),
+        }
+    }
+}
+
+// Why a line is not done: it is refused, or memory runs out.
+#[derive(Clone, Copy)]
+pub(crate) enum Trouble {
+    Refused(ConsoleFault),
+    Memory(AllocError),
+}
+
+// Each `From` is written out: clauses name the variant, and a derived one has no contract.
+impl From<AllocError> for Trouble {
+    ghost from_gives = { λ e t. t ≡ Memory e };
+
+    fn from(value: AllocError) -> Trouble {
+        Trouble::Memory(value)
+    }
+}
+
+impl From<ConsoleFault> for Trouble {
+    ghost from_gives = { λ e t. t ≡ Refused e };
+
+    fn from(value: ConsoleFault) -> Trouble {
+        Trouble::Refused(value)
+    }
+}
+
+impl From<ParseError> for Trouble {
+    ghost from_gives = { λ e t. t ≡ from_parse e };
+
+    fn from(value: ParseError) -> Trouble {
+        match value {
+            ParseError::Line(fault) => Trouble::Refused(ConsoleFault::from(fault)),
+            ParseError::Memory(error) => Trouble::Memory(error),
+        }
+    }
+}
+
+impl From<GroupFault> for Trouble {
+    ghost from_gives = { λ e t. t ≡ Refused (from_group e) };
+
+    fn from(value: GroupFault) -> Trouble {
+        Trouble::Refused(ConsoleFault::from(value))
+    }
+}
+
+impl From<CabinetFault> for Trouble {
+    ghost from_gives = { λ e t. t ≡ Refused (from_cabinet e) };
+
+    fn from(value: CabinetFault) -> Trouble {
+        Trouble::Refused(ConsoleFault::from(value))
     }
 }

@@ -1,14 +1,18 @@
-ghost use Rattle.std.specs.Prelude.{◌≡◌, ◌≤◌, length, ◌≢◌};
-ghost use Rattle.lines.specs.Lines.{least};
-ghost use Rattle.lines.specs.declared.letter.Letter.TheVariants.{Make};
+ghost use Rattle.std.specs.Prelude.{◌≡◌, MatchResult};
+ghost use Rattle.groups.specs.declared.fault.GroupFault.TheVariants.{Modulus};
+ghost use Rattle.console.specs.Faults.{from_group};
 ghost use Rattle.console.specs.Held.{holding, Answers};
-ghost use Rattle.console.specs.Requests.{call_of};
+ghost use Rattle.console.specs.Requests.{called};
+ghost use Rattle.console.specs.Responses.{InRange, Fresh, IfRefused};
 
+use crate::fault::Trouble;
+use crate::request::{Call, Kind};
 use crate::seat::Seat;
 use groups::sums::Sums;
 use groups::units::Units;
-use lines::letter::Letter;
 use sharing::fault::CabinetFault;
+use sharing::scheme::Scheme;
+use std::alloc::Global;
 
 // The cabinet that a console holds: over sums or over units.
 #[derive(Drop)]
@@ -18,15 +22,35 @@ pub enum Held {
 }
 
 impl Held {
-    // The call that a letter asks for with these numbers.
-    pub(crate) fn obey(&mut self, letter: Letter, fields: &[u32]) -> Result<u32, CabinetFault>
-        requires call { letter ≢ Make }
-        requires enough { least letter ≤ length fields.now }
-        ensures { Answers (holding self.old) (call_of letter fields.now) result (holding self.new) }
+    // A new cabinet of a group, in memory of its own.
+    pub(crate) fn make(
+        heap: Global,
+        kind: Kind,
+        modulus: u32,
+        scheme: Scheme,
+    ) -> Result<Self, Trouble>
+        ensures { MatchResult result (λ h. Fresh kind modulus scheme (holding h)) (IfRefused (λ f. (InRange kind modulus → ⊥) × (f ≡ from_group Modulus))) }
     {
+        match kind {
+            Kind::Sums => {
+                let sums = Sums::new(modulus)?;
+                Ok(Held::Sums(Seat::make(heap, sums, scheme)?))
+            }
+            Kind::Units => {
+                let units = Units::new(modulus)?;
+                Ok(Held::Units(Seat::make(heap, units, scheme)?))
+            }
+        }
+    }
+
+    // Makes a call on the cabinet that is held.
+    pub(crate) fn obey(&mut self, call: Call) -> Result<u32, CabinetFault>
+        ensures { Answers (holding self.old) (called call.entry) result (holding self.new) }
+    {
+        // The groups are two and stay so; a boxed `dyn` would need the heap, and would be handed out.
         match self {
-            Held::Sums(seat) => seat.obey(letter, fields),
-            Held::Units(seat) => seat.obey(letter, fields),
+            Held::Sums(seat) => seat.obey(call),
+            Held::Units(seat) => seat.obey(call),
         }
     }
 }

@@ -4,4 +4,5 @@
 pub mod console;
 pub mod fault;
 pub mod held;
+pub mod request;
 pub mod seat;

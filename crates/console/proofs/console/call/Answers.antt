@@ -1,16 +1,13 @@
 use Rattle.std.proofs.Common.{Ok, Err, refl, ap, ◌∙◌}
 use Rattle.std.proofs.lemmas.Result.{err_from_is_err_and}
-use Rattle.console.specs.Requests.{call_of}
-use Rattle.console.proofs.Answering.{answered_call}
+use Rattle.console.specs.Held.{holding}
 use Rattle.console.proofs.console.call.Goals as goal
 
 pub returns-in_err-obey-in-Some : goal.returns-in_err-obey-in-Some
 returns-in_err-obey-in-Some c =
     let p = err_from_is_err_and c.from_residual.result c.from_residual.ensures.1 in
-    answered_call c.args.held.now c.in-Some.held c.obey.new.self (call_of c.args.letter c.args.fields.now) c.from_residual.result (Err c.in_err-obey-in-Some.field-0.0)
-    c.in-Some.is c.in_err-obey-in-Some.ensures (p.1 ∙ ap Err p.2)
+    rw c.in-Some.is (holding c.obey.new.self, Err c.in_err-obey-in-Some.field-0.0, refl, p.1 ∙ ap Err p.2, c.in_err-obey-in-Some.ensures)
 
 pub returns-in_ok-obey-in-Some : goal.returns-in_ok-obey-in-Some
 returns-in_ok-obey-in-Some c =
-    answered_call c.args.held.now c.in-Some.held c.obey.new.self (call_of c.args.letter c.args.fields.now) (Ok c.in_ok-obey-in-Some.field-0) (Ok c.in_ok-obey-in-Some.field-0)
-    c.in-Some.is c.in_ok-obey-in-Some.ensures refl
+    rw c.in-Some.is (holding c.obey.new.self, Ok c.in_ok-obey-in-Some.field-0, refl, refl, c.in_ok-obey-in-Some.ensures)
