@@ -78,7 +78,6 @@ impl Console {
     }
 
     // Does what a line says.
-    #[tactic(auto, using(crate::proofs::Answering::enough))]
     fn follow(&mut self, heap: Global, line: &[u8]) -> Result<u32, Trouble>
         ensures follows { IfAnswered result (λ a. Follows (option_map holding self.old.held) (read_line line.now) a (option_map holding self.new.held)) }
         ensures kept { OnMemory result (self.new.held ≡ self.old.held) }

@@ -31,6 +31,7 @@ impl Held {
     ) -> Result<Self, Trouble>
         ensures { MatchResult result (λ h. Fresh kind modulus scheme (holding h)) (IfRefused (λ f. (InRange kind modulus → ⊥) × (f ≡ from_group Modulus))) }
     {
+        // Each group has a `new` of its own, which no trait has, so there is an arm for each.
         match kind {
             Kind::Sums => {
                 let sums = Sums::new(modulus)?;
