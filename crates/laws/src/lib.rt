@@ -8,10 +8,10 @@ use groups::group::Group;
 use sharing::scheme::Scheme;
 
 // The contract is the laws: of every group, every scheme and every list of requests. The answer is 0 and says nothing.
-pub fn laws_stand<G: Group>(_group: &G, _scheme: Scheme) -> u8
-    ensures opens_to_total { OpensToTotal (G.ops _group.now) _scheme }
-    ensures shares_as_dealt { SharesAsDealt (G.ops _group.now) _scheme }
-    ensures few_shares_tell_nothing { FewSharesTellNothing (G.ops _group.now) _scheme }
+pub fn laws_stand<G: Group>(group: &G, scheme: Scheme) -> u8
+    ensures opens_to_total { OpensToTotal (G.ops group.now) scheme }
+    ensures shares_as_dealt { SharesAsDealt (G.ops group.now) scheme }
+    ensures few_shares_tell_nothing { FewSharesTellNothing (G.ops group.now) scheme }
     ensures answer { result ≡ 0 }
 {
     0
