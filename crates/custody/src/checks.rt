@@ -41,13 +41,10 @@ impl<G: Group> Cabinet<G> {
     ) -> Result<(), CabinetFault>
         ensures { result ≡ verdict (first (memory_rows (G.ops self.now.group) self.now.scheme shares.now working)) }
     {
-        let scheme = self.scheme;
-        check_count(
-            CabinetFault::MemoryLength,
-            scheme.share_length(),
-            shares.len(),
-        )?;
-        check_count(CabinetFault::MemoryLength, scheme.working_length(), working)?;
+        let full = self.scheme.share_length();
+        check_count(CabinetFault::MemoryLength(full), full, shares.len())?;
+        let room = self.scheme.working_length();
+        check_count(CabinetFault::MemoryLength(room), room, working)?;
         self.check_valid(shares)
     }
 
@@ -67,7 +64,8 @@ impl<G: Group> Cabinet<G> {
             return Err(CabinetFault::InvalidKey);
         }
         let count = self.scheme.coefficient_count();
-        check_count(CabinetFault::CoefficientCount, count, coefficients.len())?;
+        let found = coefficients.len();
+        check_count(CabinetFault::CoefficientCount(count), count, found)?;
         if let Some(i) = first_invalid(&self.group, coefficients) {
             return Err(CabinetFault::InvalidCoefficient(i));
         }

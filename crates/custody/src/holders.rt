@@ -21,11 +21,8 @@ impl<G: Group> Cabinet<G> {
     fn check_revoking(&self, holder: u32, shares: &[G::Element]) -> Result<(), CabinetFault>
         ensures { result ≡ verdict (fault (G.ops self.now.group) self.now.scheme (state_of self.now shares.now) 0 (revoking holder)) }
     {
-        check_count(
-            CabinetFault::MemoryLength,
-            self.scheme.share_length(),
-            shares.len(),
-        )?;
+        let full = self.scheme.share_length();
+        check_count(CabinetFault::MemoryLength(full), full, shares.len())?;
         self.check_valid(shares)?;
         self.check_change(true, holder)
     }

@@ -19,7 +19,8 @@ impl<G: Group> Cabinet<G> {
         ensures { MatchResult result (λ s. (s.t ≡ t) × (s.n ≡ n) × (shares ≡ s.n * (s.q - 1))) (Unmade t n shares) }
     {
         let scheme = Scheme::new(t, n)?;
-        check_count(CabinetFault::MemoryLength, scheme.share_length(), shares)?;
+        let full = scheme.share_length();
+        check_count(CabinetFault::MemoryLength(full), full, shares)?;
         Ok(scheme)
     }
 

@@ -26,19 +26,18 @@ pub enum Change {
 fn check_lengths(scheme: Scheme, shares: usize, scratch: usize) -> Result<(), CabinetFault>
     ensures { result ≡ verdict (first (length_rows scheme shares scratch)) }
 {
-    check_count(CabinetFault::MemoryLength, scheme.share_length(), shares)?;
-    check_count(CabinetFault::MemoryLength, 3 * scheme.width(), scratch)
+    let full = scheme.share_length();
+    check_count(CabinetFault::MemoryLength(full), full, shares)?;
+    let room = 3 * scheme.width();
+    check_count(CabinetFault::MemoryLength(room), room, scratch)
 }
 
 // Refuses a wrong number of coefficients, and a holder that the scheme does not have.
 fn check_dealing(scheme: Scheme, coefficients: usize, holder: u32) -> Result<(), CabinetFault>
     ensures { result ≡ verdict (first (dealing_rows scheme coefficients holder)) }
 {
-    check_count(
-        CabinetFault::CoefficientCount,
-        scheme.coefficient_count(),
-        coefficients,
-    )?;
+    let count = scheme.coefficient_count();
+    check_count(CabinetFault::CoefficientCount(count), count, coefficients)?;
     check_holder(scheme, holder)
 }
 
@@ -50,7 +49,8 @@ fn check_tuple<'a>(
 ) -> Result<Helpers<'a>, CabinetFault>
     ensures { MatchResult result (λ h. (h.scheme ≡ scheme) × (h.list.now ≡ helpers.now) × (first (tuple_rows scheme out helpers.now) ≡ None)) (λ e. first (tuple_rows scheme out helpers.now) ≡ Some e) }
 {
-    check_count(CabinetFault::MemoryLength, scheme.width(), out)?;
+    let width = scheme.width();
+    check_count(CabinetFault::MemoryLength(width), width, out)?;
     Helpers::new(scheme, helpers)
 }
 

@@ -15,4 +15,4 @@ returns-in_err-check_count g c =
     let p = err_from_is_err_and c.from_residual-in_err-check_count.result c.from_residual-in_err-check_count.ensures.1 in
     let s = c.in_ok-scheme.ensures in
     let e = c.in_err-check_count.ensures in
-    rw p.1 (unroomed c.args.t c.args.n c.args.shares c.share_length.result c.in_ok-scheme.scheme s.0 s.1 c.share_length.ensures e.0 (p.2 ∙ e.1))
+    rw p.1 (unroomed c.args.t c.args.n c.args.shares c.share_length-full.result c.in_ok-scheme.scheme s.0 s.1 c.share_length-full.ensures e.0 (p.2 ∙ e.1))
