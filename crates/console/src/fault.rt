@@ -21,6 +21,7 @@ pub enum ConsoleFault {
 }
 
 impl ConsoleFault {
+    // A table of numbers and one of places: the formats fix them, and lower faults have theirs.
     pub fn number(self) -> u32
         ensures { result ≡ (refusal self).0 }
     {

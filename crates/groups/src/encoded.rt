@@ -11,6 +11,7 @@ use crate::group::Group;
 pub trait EncodedGroup: Group {
     ghost form: { Self → Form Self.Element };
 
+    // The number by which written forms name the group; an owner's group brings its own.
     fn id(&self) -> u8
         ensures { result ≡ (form self.now).id };
 

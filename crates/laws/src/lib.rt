@@ -7,7 +7,8 @@ ghost use Rattle.laws.specs.Promises.{OpensToTotal, SharesAsDealt, FewSharesTell
 use groups::group::Group;
 use sharing::scheme::Scheme;
 
-// The contract is the laws: of every group, every scheme and every list of requests. The answer is 0 and says nothing.
+// The contract is the laws: of every group, every scheme and every list of requests. The answer says nothing, and is a number
+// so that a must-fail edit has something to turn.
 pub fn laws_stand<G: Group>(group: &G, scheme: Scheme) -> u8
     ensures opens_to_total { OpensToTotal (G.ops group.now) scheme }
     ensures shares_as_dealt { SharesAsDealt (G.ops group.now) scheme }

@@ -14,6 +14,7 @@ pub struct Refusal {
 
 #[derive(Clone, Copy, Debug, PartialEq, Eq)]
 pub struct AnswerLine {
+    // A character, since it is only printed: a question mark where the line has no letter.
     pub letter: char,
     // The number that was asked for, or why there is none.
     pub answer: Result<u32, Refusal>,

@@ -34,6 +34,7 @@ pub enum CabinetFault {
 }
 
 impl CabinetFault {
+    // A table of numbers and one of places: the formats fix them.
     pub fn number(self) -> u32
         ensures { result ≡ (refusal self).0 }
     {

@@ -8,7 +8,7 @@ ghost use Rattle.sharing.specs.Faults.{refusal};
 
 use sharing::fault::CabinetFault;
 
-// The number and the place of a refusal; none where the call was accepted.
+// The number and the place of a refusal, as the pair that a test writes down; none where the call was accepted.
 pub fn refused<T: Drop>(res: Result<T, CabinetFault>) -> Option<(u32, usize)>
     ensures { MatchResult res (λ _. result ≡ None) (λ e. result ≡ Some (refusal e)) }
 {
