@@ -10,3 +10,5 @@ pub mod Interpolating
 pub mod FirstPlaces
 pub mod Filling
 pub mod PrimeSearch
+pub mod Writing
+pub mod Backward

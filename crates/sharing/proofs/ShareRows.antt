@@ -22,12 +22,14 @@ module _ {C : Type 0} (G : GroupOps C) (d : Change) where
 
 -- what was dealt is added or taken away
 module _ {C : Type 0} (G : GroupOps C) (L : GroupLaws G) (d : Change) (w h i count : ℕ) (k : C) (cs xs : List C) where
-  pub dealt_row : (m : ℕ) (out after : List C) → 0 < w → count * w ≤ length cs → m ≡ w
-      → (T (G.valid k) → T (all_valid G cs) → out ≡ dealt G m i k count cs)
-      → (T (all_valid G xs) → T (all_valid G out) → after ≡ put_row w h (changed G d (row_at w h xs) out) xs)
+  pub dealt_row : (v : ℕ) (out after : List C) → 0 < w → count * w ≤ length cs → v ≡ w
+      → (T (G.valid k) → T (all_valid G cs) → out ≡ dealt G w i k count cs)
+      → (T (all_valid G xs) → T (all_valid G out) → after ≡ put_row v h (changed G d (row_at v h xs) out) xs)
       → T (all_valid G xs) → T (G.valid k) → T (all_valid G cs)
       → after ≡ put_row w h (changed G d (row_at w h xs) (dealt G w i k count cs)) xs
-  dealt_row m out after wide full same deal add p q r =
-      let e : out ≡ dealt G w i k count cs = deal q r ∙ ap (λ (n : ℕ). dealt G n i k count cs) same in
-      let v : T (all_valid G out) = subst (λ (z : List C). T (all_valid G z)) (sym e) (ok_valid G w (dealt G w i k count cs) (dealt_ok G L w i count k cs wide full q r)) in
-      add p v ∙ ap (λ (z : List C). put_row w h (changed G d (row_at w h xs) z) xs) e
+  dealt_row v out after wide full same deal add p q r =
+      let e : out ≡ dealt G w i k count cs = deal q r in
+      let o : T (all_valid G out) = subst (λ (z : List C). T (all_valid G z)) (sym e) (ok_valid G w (dealt G w i k count cs) (dealt_ok G L w i count k cs wide full q r)) in
+      add p o
+      ∙ ap (λ (n : ℕ). put_row n h (changed G d (row_at n h xs) out) xs) same
+      ∙ ap (λ (z : List C). put_row w h (changed G d (row_at w h xs) z) xs) e

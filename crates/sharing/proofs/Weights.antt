@@ -1,6 +1,5 @@
 -- The factors of a weight, and the loop that multiplies by them.
-use Rattle.std.proofs.Common.{◌≡◌, ℕ, ◌+◌, ◌-◌, ◌<◌, ◌≤◌, T, eqb, List, ◌∷◌, length, get_or, drop, sym, refl, ap, ◌∙◌, subst, le_refl, arith}
-use Rattle.std.proofs.lemmas.List.{drop_all, drop_more}
+use Rattle.std.proofs.Common.{◌≡◌, ℕ, ◌-◌, ◌≤◌, T, eqb, List, length, sym, refl, ap, ◌∙◌, subst}
 use Rattle.std.proofs.lemmas.Bool.{cond-true, cond-false, eq-eqb, ne_eqb}
 use Rattle.algebra.specs.Group.{GroupOps, GroupLaws}
 use Rattle.algebra.specs.Tuples.{all_valid, ok, list_ops}
@@ -8,7 +7,6 @@ use Rattle.algebra.specs.Space.{ok_of}
 use Rattle.algebra.specs.Scalars.{Scalar, one, times, act, point}
 use Rattle.algebra.specs.Sharing.{less, difference, inverse, factor}
 use Rattle.algebra.specs.Primes.{inverse_number}
-use Rattle.algebra.specs.Dealing.{weight_at}
 use Rattle.algebra.proofs.Dealings.{act_ok, difference_less}
 use Rattle.sharing.proofs.Acting.{chained}
 
@@ -36,22 +34,3 @@ module _ {C : Type 0} (G : GroupOps C) (L : GroupLaws G) where
       chained G L (length m) m refl v (difference k p) t mid after e f
       ∙ less_at (length m) q two n k p (act (list_ops G (length m)) t m) (act_ok G L (length m) t m (ok_of G (length m) m refl v))
       ∙ ap (λ (s : Scalar). act (list_ops G (length m)) s m) (sym (factor_other q p j k apart))
-
-  -- from the last helper to the first
-  module _ (q p j : ℕ) (hs : List ℕ) (w : ℕ) (m : List C) where
-    pub weight_starts : m ≡ act (list_ops G w) (weight_at q (drop (length hs) hs) p j) m
-    weight_starts = ap (λ (B : List ℕ). act (list_ops G w) (weight_at q B p j) m) (sym (drop_all (length hs) hs (le_refl (length hs))))
-
-    pub weight_step : (i : ℕ) (out after : List C) → length m ≡ w → T (all_valid G m) → 0 < i → i ≤ length hs
-        → out ≡ act (list_ops G w) (weight_at q (drop i hs) p j) m
-        → (T (all_valid G out) → after ≡ act (list_ops G (length out)) (factor_at q p j (get_or hs (i - 1) 0)) out)
-        → after ≡ act (list_ops G w) (weight_at q (drop (i - 1) hs) p j) m
-    weight_step i out after n v some l e f =
-        let h : i - 1 < length hs = omega arith in
-        let s : i - 1 + 1 ≡ i = omega arith in
-        let d : drop (i - 1) hs ≡ get_or hs (i - 1) 0 ∷ drop i hs = drop_more hs (i - 1) 0 h ∙ ap (λ (a : ℕ). get_or hs (i - 1) 0 ∷ drop a hs) s in
-        chained G L w m n v (factor_at q p j (get_or hs (i - 1) 0)) (weight_at q (drop i hs) p j) out after e f
-        ∙ ap (λ (B : List ℕ). act (list_ops G w) (weight_at q B p j) m) (sym d)
-
-    pub weight_ends : (i : ℕ) (out : List C) → i ≤ 0 → out ≡ act (list_ops G w) (weight_at q (drop i hs) p j) m → out ≡ act (list_ops G w) (weight_at q hs p j) m
-    weight_ends i out h e = let z : i ≡ 0 = omega arith in e ∙ ap (λ (a : ℕ). act (list_ops G w) (weight_at q (drop a hs) p j) m) z

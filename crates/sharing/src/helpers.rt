@@ -1,4 +1,4 @@
-ghost use Rattle.std.specs.Prelude.{◌≡◌, ◌<◌, length};
+ghost use Rattle.std.specs.Prelude.{◌≡◌, ℕ, ◌<◌, ◌≤◌, length, slice_index, MatchResult};
 ghost use Rattle.algebra.specs.Rows.{first_place};
 ghost use Rattle.sharing.specs.Verdicts.{first, verdict};
 ghost use Rattle.sharing.specs.Helpers.{unknown_at, repeated_at, helper_rows};
@@ -31,19 +31,37 @@ fn first_repeated(helpers: &[u32]) -> Option<usize>
     (0..helpers.len()).find(|i| is_repeated(helpers, *i))
 }
 
+// A list of holders of a scheme.
+#[derive(Clone, Copy)]
+pub(crate) struct Helpers<'a> {
+    pub scheme: Scheme,
+    pub list: &'a [u32],
+    ghost known: { (i : ℕ) → i < length list.now → (1 ≤ slice_index list.now i) × (slice_index list.now i ≤ scheme.n) },
+}
+
+impl<'a> Helpers<'a> {
+    // Refuses a list that is not of t different holders of the scheme.
+    pub(crate) fn new(scheme: Scheme, list: &'a [u32]) -> Result<Self, CabinetFault>
+        ensures { MatchResult result (λ h. (h.scheme ≡ scheme) × (h.list.now ≡ list.now) × (first (helper_rows scheme list.now) ≡ None)) (λ e. first (helper_rows scheme list.now) ≡ Some e) }
+    {
+        if list.len() != scheme.t {
+            return Err(CabinetFault::HelperCount(list.len()));
+        }
+        if let Some(i) = first_unknown(scheme.n, list) {
+            return Err(CabinetFault::UnknownHelper(i));
+        }
+        if let Some(i) = first_repeated(list) {
+            return Err(CabinetFault::RepeatedHelper(i));
+        }
+        Ok(Helpers { scheme, list })
+    }
+}
+
 // Refuses a list that is not of t different holders of the scheme.
 pub fn check_helpers(scheme: Scheme, helpers: &[u32]) -> Result<(), CabinetFault>
     ensures { result ≡ verdict (first (helper_rows scheme helpers.now)) }
 {
-    if helpers.len() != scheme.t {
-        return Err(CabinetFault::HelperCount(helpers.len()));
-    }
-    if let Some(i) = first_unknown(scheme.n, helpers) {
-        return Err(CabinetFault::UnknownHelper(i));
-    }
-    if let Some(i) = first_repeated(helpers) {
-        return Err(CabinetFault::RepeatedHelper(i));
-    }
+    Helpers::new(scheme, helpers)?;
     Ok(())
 }
 

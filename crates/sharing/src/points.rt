@@ -1,4 +1,4 @@
-ghost use Rattle.std.specs.Prelude.{◌≡◌, ℕ, ◌+◌, ◌-◌, ◌<◌, ◌≤◌, T, length, slice_index, slice_index_or};
+ghost use Rattle.std.specs.Prelude.{◌≡◌, ◌+◌, ◌-◌, ◌*◌, ◌<◌, ◌≤◌, T, length, slice_index_or};
 ghost use Rattle.algebra.specs.Dealing.{weight_at};
 ghost use Rattle.algebra.specs.Primes.{inverse_number};
 ghost use Rattle.algebra.specs.Scalars.{times, act, power, point, geometric};
@@ -6,7 +6,9 @@ ghost use Rattle.algebra.specs.Sharing.{difference, inverse, factor};
 ghost use Rattle.algebra.specs.Tuples.{all_valid, list_ops};
 ghost use Rattle.algebra.specs.Turns.{turned_from};
 
-use crate::tuples::{add_into, fill_zero, negate};
+use crate::helpers::Helpers;
+use crate::scheme::Scheme;
+use crate::tuples::{add_into, fill_zero, negate, write_each};
 use groups::group::Group;
 
 // What comes to the place i where `m` and one zero after it make a turn by k places.
@@ -26,9 +28,7 @@ pub(crate) fn mul_power<G: Group>(g: &G, k: usize, m: &mut [G::Element], tmp: &m
     ensures { T (all_valid (G.ops g.now) m.old) → m.new ≡ act (list_ops (G.ops g.now) (length m.old)) (power k) m.old }
 {
     let back = g.negative(turned(g, k, m, m.len()));
-    for i in 0..m.len() {
-        tmp[i] = g.sum(turned(g, k, m, i), back);
-    }
+    write_each(tmp, |i, _| g.sum(turned(g, k, m, i), back));
     m.copy_from_slice(tmp);
 }
 
@@ -53,42 +53,39 @@ pub(crate) fn mul_geometric<G: Group>(
     }
 }
 
-// Multiplies `m` by x^a (1 + x^d + .. + x^(d(e-1))), by way of `product` and `tmp`.
+// Multiplies `m` by x^a (1 + x^d + .. + x^(d(e-1))), by way of two tuples of `scratch`.
 pub(crate) fn mul_term<G: Group>(
     g: &G,
     a: usize,
     d: usize,
     e: usize,
     m: &mut [G::Element],
-    product: &mut [G::Element],
-    tmp: &mut [G::Element],
+    scratch: &mut [G::Element],
 )
     requires turn { a ≤ length m.old + 1 }
     requires turns { d ≤ length m.old + 1 }
-    requires product { length product.old ≡ length m.old }
-    requires tmp { length tmp.old ≡ length m.old }
+    requires room { length scratch.old ≡ 2 * length m.old }
     ensures { T (all_valid (G.ops g.now) m.old) → m.new ≡ act (list_ops (G.ops g.now) (length m.old)) (times (power a) (geometric d e)) m.old }
 {
+    let (product, tmp) = scratch.split_at_mut(m.len());
     mul_geometric(g, d, e, m, product, tmp);
     m.copy_from_slice(product);
     mul_power(g, a, m, tmp);
 }
 
-// Multiplies `m` by the point k less the point j, by way of `product` and `tmp`.
+// Multiplies `m` by the point k less the point j, by way of two tuples of `scratch`.
 pub(crate) fn mul_difference<G: Group>(
     g: &G,
     k: usize,
     j: usize,
     m: &mut [G::Element],
-    product: &mut [G::Element],
-    tmp: &mut [G::Element],
+    scratch: &mut [G::Element],
 )
     requires turn { k ≤ length m.old + 1 }
-    requires product { length product.old ≡ length m.old }
-    requires tmp { length tmp.old ≡ length m.old }
+    requires room { length scratch.old ≡ 2 * length m.old }
     ensures { T (all_valid (G.ops g.now) m.old) → m.new ≡ act (list_ops (G.ops g.now) (length m.old)) (difference k j) m.old }
 {
-    mul_term(g, k.min(j), 1, k.abs_diff(j), m, product, tmp);
+    mul_term(g, k.min(j), 1, k.abs_diff(j), m, scratch);
     if j < k {
         return;
     }
@@ -96,90 +93,76 @@ pub(crate) fn mul_difference<G: Group>(
 }
 
 // The number from 1 to q - 1 that times d is one more than a multiple of q; 0 where there is none.
-pub(crate) fn inverse_number(q: usize, d: usize) -> usize
-    requires small { q ≤ 31 }
-    requires below { d < q }
-    ensures { result ≡ inverse_number q d }
+pub(crate) fn inverse_number(scheme: Scheme, d: usize) -> usize
+    requires { d < scheme.q }
+    ensures { result ≡ inverse_number scheme.q d }
 {
-    (1..q).find(|e| d * *e % q == 1).unwrap_or(0)
+    (1..scheme.q).find(|e| d * *e % scheme.q == 1).unwrap_or(0)
 }
 
-// Multiplies `m` by the inverse of the point k less the point j, by way of `product` and `tmp`.
+// Multiplies `m` by the inverse of the point k less the point j, by way of two tuples of `scratch`.
 pub(crate) fn mul_inverse<G: Group>(
     g: &G,
-    q: usize,
+    scheme: Scheme,
     k: usize,
     j: usize,
     m: &mut [G::Element],
-    product: &mut [G::Element],
-    tmp: &mut [G::Element],
+    scratch: &mut [G::Element],
 )
-    requires small { q ≤ 31 }
-    requires k { k < q }
-    requires j { j < q }
-    requires m { length m.old ≡ q - 1 }
-    requires product { length product.old ≡ length m.old }
-    requires tmp { length tmp.old ≡ length m.old }
-    ensures { T (all_valid (G.ops g.now) m.old) → m.new ≡ act (list_ops (G.ops g.now) (length m.old)) (inverse q (inverse_number q) k j) m.old }
+    requires k { k < scheme.q }
+    requires j { j < scheme.q }
+    requires m { length m.old ≡ scheme.q - 1 }
+    requires room { length scratch.old ≡ 2 * length m.old }
+    ensures { T (all_valid (G.ops g.now) m.old) → m.new ≡ act (list_ops (G.ops g.now) (length m.old)) (inverse scheme.q (inverse_number scheme.q) k j) m.old }
 {
     let d = k.abs_diff(j);
-    let e = inverse_number(q, d);
-    mul_term(g, q - k.min(j), d, e, m, product, tmp);
+    let e = inverse_number(scheme, d);
+    mul_term(g, scheme.q - k.min(j), d, e, m, scratch);
     if j < k {
         return;
     }
     negate(g, m);
 }
 
-// Multiplies `m` by k's part in the weight of j at the point p, by way of `product` and `tmp`.
+// Multiplies `m` by k's part in the weight of j at the point p, by way of two tuples of `scratch`.
 pub(crate) fn mul_factor<G: Group>(
     g: &G,
-    q: usize,
+    scheme: Scheme,
     k: usize,
     p: usize,
     j: usize,
     m: &mut [G::Element],
-    product: &mut [G::Element],
-    tmp: &mut [G::Element],
+    scratch: &mut [G::Element],
 )
-    requires two { 2 ≤ q }
-    requires small { q ≤ 31 }
-    requires k { k < q }
-    requires j { j < q }
-    requires m { length m.old ≡ q - 1 }
-    requires product { length product.old ≡ q - 1 }
-    requires tmp { length tmp.old ≡ q - 1 }
-    ensures { T (all_valid (G.ops g.now) m.old) → m.new ≡ act (list_ops (G.ops g.now) (length m.old)) (factor point (inverse q (inverse_number q)) (point p) j k) m.old }
+    requires k { k < scheme.q }
+    requires j { j < scheme.q }
+    requires m { length m.old ≡ scheme.q - 1 }
+    requires room { length scratch.old ≡ 2 * (scheme.q - 1) }
+    ensures { T (all_valid (G.ops g.now) m.old) → m.new ≡ act (list_ops (G.ops g.now) (length m.old)) (factor point (inverse scheme.q (inverse_number scheme.q)) (point p) j k) m.old }
 {
     if k == j {
         return;
     }
-    mul_inverse(g, q, k, j, m, product, tmp);
-    mul_difference(g, k, p, m, product, tmp);
+    mul_inverse(g, scheme, k, j, m, scratch);
+    mul_difference(g, k, p, m, scratch);
 }
 
-// Multiplies `m` by the weight of j among the helpers at the point p, by way of `product` and `tmp`.
+// Multiplies `m` by the weight of j among the helpers at the point p, by way of two tuples of
+// `scratch`.
 pub(crate) fn mul_weight<G: Group>(
     g: &G,
-    q: usize,
-    helpers: &[u32],
+    helpers: Helpers,
     p: usize,
     j: usize,
     m: &mut [G::Element],
-    product: &mut [G::Element],
-    tmp: &mut [G::Element],
+    scratch: &mut [G::Element],
 )
-    requires two { 2 ≤ q }
-    requires small { q ≤ 31 }
-    requires helpers { (i : ℕ) → i < length helpers.now → slice_index helpers.now i < q }
-    requires j { j < q }
-    requires m { length m.old ≡ q - 1 }
-    requires product { length product.old ≡ q - 1 }
-    requires tmp { length tmp.old ≡ q - 1 }
-    ensures { T (all_valid (G.ops g.now) m.old) → m.new ≡ act (list_ops (G.ops g.now) (q - 1)) (weight_at q helpers.now p j) m.old }
+    requires j { j < helpers.scheme.q }
+    requires m { length m.old ≡ helpers.scheme.q - 1 }
+    requires room { length scratch.old ≡ 2 * (helpers.scheme.q - 1) }
+    ensures { T (all_valid (G.ops g.now) m.old) → m.new ≡ act (list_ops (G.ops g.now) (helpers.entry.scheme.q - 1)) (weight_at helpers.entry.scheme.q helpers.entry.list.now p j) m.old }
 {
-    for i in (0..helpers.len()).rev() {
-        let k = helpers[i] as usize;
-        mul_factor(g, q, k, p, j, m, product, tmp);
+    for k in helpers.list.iter().rev() {
+        mul_factor(g, helpers.scheme, *k as usize, p, j, m, scratch);
     }
 }

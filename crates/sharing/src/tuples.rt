@@ -1,4 +1,4 @@
-ghost use Rattle.std.specs.Prelude.{◌≡◌, T, length};
+ghost use Rattle.std.specs.Prelude.{◌≡◌, ℕ, ◌<◌, T, length, slice_index_or};
 ghost use Rattle.algebra.specs.Rows.{first_place};
 ghost use Rattle.algebra.specs.Tuples.{all_valid, invalid_at, tuple_zero, tuple_plus, tuple_minus, tuple_less};
 
@@ -19,14 +19,23 @@ pub fn first_invalid<G: Group>(g: &G, xs: &[G::Element]) -> Option<usize>
     xs.iter().position(|x| !g.is_valid(*x))
 }
 
+// Writes to each place what `f` makes of the place and of the element there.
+pub(crate) fn write_each<E: Copy, F: Fn(usize, E) -> E>(to: &mut [E], f: F)
+    requires { (i : ℕ) (x : E) → i < length to.old → F.pre f i x }
+    ensures { (i : ℕ) (d : E) → i < length to.old → F.post f i (slice_index_or to.old i d) (slice_index_or to.new i d) }
+{
+    // By index, since after `iter_mut` a proof knows the length and no element.
+    for i in 0..to.len() {
+        to[i] = f(i, to[i]);
+    }
+}
+
 // Adds `from` to `to`.
 pub(crate) fn add_into<G: Group>(g: &G, to: &mut [G::Element], from: &[G::Element])
     requires { length from.now ≡ length to.old }
     ensures { T (all_valid (G.ops g.now) to.old) → T (all_valid (G.ops g.now) from.now) → to.new ≡ tuple_plus (G.ops g.now) to.old from.now }
 {
-    for i in 0..to.len() {
-        to[i] = g.sum(to[i], from[i]);
-    }
+    write_each(to, |i, x| g.sum(x, from[i]));
 }
 
 // Takes `from` from `to`.
@@ -34,16 +43,12 @@ pub(crate) fn subtract_into<G: Group>(g: &G, to: &mut [G::Element], from: &[G::E
     requires { length from.now ≡ length to.old }
     ensures { T (all_valid (G.ops g.now) to.old) → T (all_valid (G.ops g.now) from.now) → to.new ≡ tuple_less (G.ops g.now) to.old from.now }
 {
-    for i in 0..to.len() {
-        to[i] = g.sum(to[i], g.negative(from[i]));
-    }
+    write_each(to, |i, x| g.difference(x, from[i]));
 }
 
 // Turns each element into its negative.
 pub(crate) fn negate<G: Group>(g: &G, to: &mut [G::Element])
     ensures { T (all_valid (G.ops g.now) to.old) → to.new ≡ tuple_minus (G.ops g.now) to.old }
 {
-    for i in 0..to.len() {
-        to[i] = g.negative(to[i]);
-    }
+    write_each(to, |_, x| g.negative(x));
 }

@@ -1,32 +1,34 @@
-use Rattle.std.proofs.Common.{length, refl, arith}
-use Rattle.algebra.proofs.RowLists.{row_before}
+use Rattle.std.proofs.Common.{◌-◌, length, ap, ◌∙◌, rules, arith}
+use Rattle.std.specs.Slice.Exact.{rchunks_exact_rest, rchunks_exact_remainder}
+use Rattle.algebra.specs.Dealing.{dealt}
 use Rattle.sharing.proofs.Horner.{deal_starts, deal_goes_on, deal_ends}
 use Rattle.sharing.proofs.dealing.deal_into.Goals as goal
 
-pub loop-j-init : goal.loop-j-init
-loop-j-init g c h =
-    deal_starts (g.G.Group.ops c.args.g.now) (g.met.G.Group.laws c.args.g.now) (length c.args.out.now) c.args.i c.args.count c.args.coefficients.now
-    (length c.args.out.now) c.fill_zero.new.to c.fill_zero.ensures refl
+pub loop-row-init : goal.loop-row-init
+loop-row-init g c = (
+  search rules,
+  tt,
+  search rules,
+  deal_starts (g.G.Group.ops c.args.g.now) (g.met.G.Group.laws c.args.g.now) c.width-width.result c.args.i (c.args.scheme.t - 1) (length c.args.out.now)
+      c.args.coefficients.now (rchunks_exact_remainder c.rchunks_exact-row-items.result) (rchunks_exact_rest c.into_iter-row-iterator.result) c.fill_zero.new.to
+      (search rules) (search rules) (search rules) c.fill_zero.ensures (omega arith),
+)
 
-pub overflow_mul-a : goal.overflow_mul-a
-overflow_mul-a g c = omega (arith, row_before c.loop-j.j c.args.count (length c.args.out.now) (omega arith) (omega arith))
-
-pub overflow_add-a : goal.overflow_add-a
-overflow_add-a g c = omega (arith, row_before c.loop-j.j c.args.count (length c.args.out.now) (omega arith) (omega arith))
-
-pub offset_bounds-coefficients-a : goal.offset_bounds-coefficients-a
-offset_bounds-coefficients-a g c = omega (arith, row_before c.loop-j.j c.args.count (length c.args.out.now) (omega arith) (omega arith))
-
-pub slice_bounds-mul_point_add-end : goal.slice_bounds-mul_point_add-end
-slice_bounds-mul_point_add-end g c = omega (arith, row_before c.loop-j.j c.args.count (length c.args.out.now) (omega arith) (omega arith))
-
-pub loop-j-preserved : goal.loop-j-preserved
-loop-j-preserved g c h =
-    deal_goes_on (g.G.Group.ops c.args.g.now) (g.met.G.Group.laws c.args.g.now) (length c.args.out.now) c.args.i c.args.count c.args.coefficients.now
-    c.loop-j.j c.loop-j.out c.mul_point_add.new.out (omega arith) (omega arith) (omega arith) c.mul_point_add.ensures h (c.loop-j.invariant h)
+pub loop-row-preserved : goal.loop-row-preserved
+loop-row-preserved g c = (
+  search rules,
+  tt,
+  search rules,
+  deal_goes_on (g.G.Group.ops c.args.g.now) (g.met.G.Group.laws c.args.g.now) c.width-width.result c.args.i
+      c.args.coefficients.now (rchunks_exact_rest c.loop-row.row-iterator) (rchunks_exact_rest c.next.new.self) c.in-Some.row.now c.loop-row.out c.mul_point_add.new.out
+      (search rules) (search rules) (search rules) c.mul_point_add.ensures c.loop-row.invariant.3,
+)
 
 pub returns : goal.returns
 returns g c p h =
-    deal_ends (g.G.Group.ops c.args.g.now) (g.met.G.Group.laws c.args.g.now) (length c.args.out.now) c.args.i c.args.count c.args.coefficients.now
-    c.loop-j.j c.args.key c.loop-j.out c.mul_geometric.new.out c.embed.new.out c.add_into.new.to
-    (omega arith) (omega arith) c.requires.wide (omega arith) c.mul_geometric.ensures c.embed.ensures c.add_into.ensures p h (c.loop-j.invariant h)
+    let G = g.G.Group.ops c.args.g.now in
+    let w = c.width-width.result in
+    deal_ends G (g.met.G.Group.laws c.args.g.now) w c.args.i (c.args.scheme.t - 1) c.args.key
+    c.args.coefficients.now (rchunks_exact_rest c.loop-row.row-iterator) c.loop-row.out c.mul_geometric.new.out c.embed.new.out c.add_into.new.to
+    (search rules) (omega arith) (search rules) c.mul_geometric.ensures c.embed.ensures c.add_into.ensures c.loop-row.invariant.3 p h
+    ∙ ap (λ v. dealt G v c.args.i c.args.key (c.args.scheme.t - 1) c.args.coefficients.now) c.width-width.ensures

@@ -1,11 +1,11 @@
-use Rattle.std.proofs.Common.{◌≡◌, T, drop}
-use Rattle.algebra.specs.Scalars.{point}
-use Rattle.algebra.specs.Sharing.{value}
-use Rattle.algebra.specs.Rows.{rows}
-use Rattle.algebra.specs.Tuples.{all_valid, list_ops}
+use Rattle.std.proofs.Common.{◌≡◌}
+use Rattle.std.specs.Slice.Exact.{rchunks_exact_rest, rchunks_exact_size}
+use Rattle.sharing.proofs.Horner.{Dealt}
 use Rattle.sharing.proofs.dealing.deal_into.Given as goal
 
-abbrev pub invariant-loop-j : goal.invariant-loop-j
-invariant-loop-j g l =
-    let G = g.G.Group.ops l.g in
-    T (all_valid G l.coefficients) → (l.out ≡ value (list_ops G l.width) (drop l.j (rows l.width l.count l.coefficients)) (point l.i)) × T (all_valid G l.out)
+abbrev pub invariant-loop-row : goal.invariant-loop-row
+invariant-loop-row g l =
+    (goal.iterator-loop-row g).can_next l.row-iterator
+    × (goal.iterator-loop-row g).is_finite l.row-iterator
+    × (rchunks_exact_size l.row-iterator ≡ l.width)
+    × Dealt (g.G.Group.ops l.g) l.width l.i l.coefficients (rchunks_exact_rest l.row-iterator) l.out

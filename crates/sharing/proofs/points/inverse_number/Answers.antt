@@ -8,7 +8,7 @@ use Rattle.sharing.proofs.points.inverse_number.Goals as goal
 
 pub returns : goal.returns
 returns c =
-    let q = c.args.q in
+    let q = c.args.scheme.q in
     let test : ℕ → Bool = λ e. eqb ((c.args.d * e) % q) 1 in
     c.unwrap_or.ensures
     ∙ ap (λ r. unwrap_or r 0)

@@ -10,13 +10,13 @@ returns-then-j-k g c p =
     c.mul_term.ensures p
     ∙ ap (λ s. act (list_ops (g.G.Group.ops c.args.g.now) (length c.args.m.now)) s c.args.m.now)
     (inverse_one c.args.k c.args.j c.min.result c.abs_diff-d.result c.min.ensures c.abs_diff-d.ensures
-    c.args.q c.inverse_number-e.result c.inverse_number-e.ensures c.if-j-k.true)
+    c.args.scheme.q c.inverse_number-e.result c.inverse_number-e.ensures c.if-j-k.true)
 
 pub returns : goal.returns
 returns g c p =
     negated (g.G.Group.ops c.args.g.now) (g.met.G.Group.laws c.args.g.now) (length c.args.m.now) c.args.m.now refl p
-    (times (power (c.args.q - c.min.result)) (geometric c.abs_diff-d.result c.inverse_number-e.result)) c.mul_term.new.m c.negate.new.to
+    (times (power (c.args.scheme.q - c.min.result)) (geometric c.abs_diff-d.result c.inverse_number-e.result)) c.mul_term.new.m c.negate.new.to
     (c.mul_term.ensures p) c.negate.ensures
     ∙ ap (λ s. act (list_ops (g.G.Group.ops c.args.g.now) (length c.args.m.now)) s c.args.m.now)
     (inverse_other c.args.k c.args.j c.min.result c.abs_diff-d.result c.min.ensures c.abs_diff-d.ensures
-    c.args.q c.inverse_number-e.result c.inverse_number-e.ensures c.if-j-k.false)
+    c.args.scheme.q c.inverse_number-e.result c.inverse_number-e.ensures c.if-j-k.false)

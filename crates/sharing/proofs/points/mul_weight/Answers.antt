@@ -1,17 +1,28 @@
-use Rattle.std.proofs.Common.{◌-◌, arith}
-use Rattle.sharing.proofs.Weights.{weight_starts, weight_step, weight_ends}
+use Rattle.std.proofs.Common.{◌-◌, ◌≤◌, [], ◌∷◌, refl, rules, arith}
+use Rattle.std.specs.Slice.Iter.{iter_rest}
+use Rattle.std.specs.Iterator.Adapters.{rev_source}
+use Rattle.sharing.proofs.Backward.{walked, kept}
+use Rattle.sharing.proofs.Acting.{chained}
+use Rattle.sharing.proofs.Weights.{factor_at}
+use Rattle.algebra.specs.Dealing.{weight_at}
 use Rattle.sharing.proofs.points.mul_weight.Goals as goal
 
-pub loop-i-init : goal.loop-i-init
-loop-i-init g c v =
-    weight_starts (g.G.Group.ops c.args.g.now) (g.met.G.Group.laws c.args.g.now) c.args.q c.args.p c.args.j c.args.helpers.now (c.args.q - 1) c.args.m.now
+pub loop-k-init : goal.loop-k-init
+loop-k-init g c = ([], search rules, λ v. refl)
 
-pub loop-i-preserved : goal.loop-i-preserved
-loop-i-preserved g c v =
-    weight_step (g.G.Group.ops c.args.g.now) (g.met.G.Group.laws c.args.g.now) c.args.q c.args.p c.args.j c.args.helpers.now (c.args.q - 1) c.args.m.now
-    c.loop-i.i c.loop-i.m c.mul_factor.new.m c.requires.m v (omega arith) (omega arith) (c.loop-i.invariant v) c.mul_factor.ensures
+pub mul_factor-requires-clause-k : goal.mul_factor-requires-clause-k
+mul_factor-requires-clause-k g c =
+    let holder = kept c.args.helpers.list.now (iter_rest (rev_source c.loop-k.k-iterator)) (iter_rest (rev_source c.next.new.self)) c.loop-k.invariant.0 c.in-Some.k.now
+    c.loop-k.invariant.1 (search rules) (λ k. (1 ≤ k) × (k ≤ c.args.helpers.scheme.n)) 0 c.args.helpers.known in
+    omega (arith, holder.1, c.args.helpers.scheme.above)
 
-pub returns : goal.returns
-returns g c v =
-    weight_ends (g.G.Group.ops c.args.g.now) (g.met.G.Group.laws c.args.g.now) c.args.q c.args.p c.args.j c.args.helpers.now (c.args.q - 1) c.args.m.now
-    c.loop-i.i c.loop-i.m (omega arith) (c.loop-i.invariant v)
+pub loop-k-preserved : goal.loop-k-preserved
+loop-k-preserved g c =
+    let q = c.args.helpers.scheme.q in
+    let done = c.loop-k.invariant.0 in
+    let k = c.in-Some.k.now in (
+      k ∷ done,
+      walked c.args.helpers.list.now (iter_rest (rev_source c.loop-k.k-iterator)) (iter_rest (rev_source c.next.new.self)) done k c.loop-k.invariant.1 (search rules),
+      λ v. chained (g.G.Group.ops c.args.g.now) (g.met.G.Group.laws c.args.g.now) (q - 1) c.args.m.now c.requires.m v
+          (factor_at q c.args.p c.args.j k) (weight_at q done c.args.p c.args.j) c.loop-k.m c.mul_factor.new.m (c.loop-k.invariant.2 v) c.mul_factor.ensures,
+    )
