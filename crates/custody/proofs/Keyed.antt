@@ -1,5 +1,6 @@
 -- A dealing of a key in a direction, as a step: a deposit, a withdrawal or a refresh.
 use Rattle.std.proofs.Common.{◌≡◌, ℕ, ◌+◌, Bool, true, false, not, T, leb, List, [], ◌∷◌, ◌++◌, length, Some, None, Ok, Err, Option, Result, sym, refl, ap, ◌∙◌, subst, ap₂}
+use Rattle.std.specs.Result.{IsErrAnd}
 use Rattle.algebra.specs.Group.{GroupOps, GroupLaws}
 use Rattle.algebra.specs.Tuples.{all_valid, tuple_zero}
 use Rattle.sharing.specs.declared.fault.CabinetFault.{CabinetFault}
@@ -43,7 +44,7 @@ module _ {C : Type 0} (G : GroupOps C) (L : GroupLaws G) (s : Scheme) where
         ap (λ (k : C). first (memory_rows G s st.shares (length working) ++ keyed_rows G s st.ledger.epoch k cs)) (sym e)
         ∙ same_rest (memory_rows G s st.shares (length working)) (keyed_rows G s st.ledger.epoch (key_of G d) cs) (deal_rows G s st.ledger.epoch d cs) (keyed st.ledger.epoch d cs)
 
-    pub refused_deal : (r : Result ℕ CabinetFault) (e : CabinetFault) → r ≡ Err e → Err e ≡ verdict (first rows_of)
+    pub refused_deal : (r : Result ℕ CabinetFault) (e : CabinetFault) → IsErrAnd r (λ x. x ≡ e) → Err e ≡ verdict (first rows_of)
         → Deals G s st working change key cs (record { answer = answered epoch_is r; state = st; working = working })
     refused_deal r e p v d f h = refused_step G s epoch_is st working (dealing d cs) r e p (v ∙ ap verdict (fault_of d h))
 

@@ -1,5 +1,4 @@
-use Rattle.std.proofs.Common.{length, Err, ap, ◌∙◌}
-use Rattle.std.proofs.lemmas.Result.{err_from_is_err_and}
+use Rattle.std.proofs.Common.{length, ap}
 use Rattle.history.specs.Calls.{dealing, depositing}
 use Rattle.custody.specs.States.{state_of}
 use Rattle.bench.specs.Rounds.{no_cabinet, no_deposit}
@@ -8,8 +7,7 @@ use Rattle.bench.proofs.rounds.deposit_rounds.Goals as goal
 
 pub returns-in_err-scheme : goal.returns-in_err-scheme
 returns-in_err-scheme g c =
-    let p = err_from_is_err_and c.from_residual.result c.from_residual.ensures.1 in
-    on_refusal c.from_residual.result _ _ c.in_err-scheme.field-0.0 (p.1 ∙ ap Err p.2) (no_cabinet c.in_err-scheme.ensures)
+    on_refusal c.from_residual.result _ _ c.in_err-scheme.field-0.0 c.from_residual.ensures.1 (no_cabinet c.in_err-scheme.ensures)
 
 pub returns : goal.returns
 returns g c =
