@@ -19,7 +19,7 @@ use Rattle.custody.specs.Dealings.{keyed_out}
 
 -- an accepted call was not refused
 pub never_refused : {F X : Type 0} (f : F) (x : X) → ◌≡◌ {A = Result X F} (Err f) (Ok x) → ⊥
-never_refused f x e = let z : ◌≡◌ {A = ℕ} 0 1 = cc in omega arith
+never_refused f x e = cc
 
 module _ {C : Type 0} (G : GroupOps C) (L : GroupLaws G) (d : Change) (w h : ℕ) (k : C) (cs xs ys after : List C) (b : Bool) where
   pub dealt_present : (Q : CabinetFault → Type 0) (r : Result (Unit {0}) CabinetFault) (o : Option CabinetFault) → o ≡ None → r ≡ verdict o → b ≡ true

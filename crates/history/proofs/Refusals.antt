@@ -1,5 +1,6 @@
 -- What is known where no row applies, and where one does.
-use Rattle.std.proofs.Common.{◌≡◌, ℕ, ◌-◌, ◌*◌, ◌<◌, ◌≤◌, Bool, true, false, not, ◌||◌, T, ltb, leb, List, [], ◌∷◌, length, None, Ok, Err, Option, Result, sym, ap, ◌∙◌, arith}
+use Rattle.std.proofs.Common.{◌≡◌, ℕ, ◌-◌, ◌*◌, ◌<◌, ◌≤◌, Bool, true, false, not, ◌||◌, T, ltb, leb, List, [], ◌∷◌, length, None, Ok, Err, Option, Result, sym, ap, ◌∙◌}
+use Rattle.std.proofs.lemmas.Float.{T_from_true}
 use Rattle.std.proofs.lemmas.Bool.{not-false, leb-false, ltb-false, or_parts}
 use Rattle.std.specs.Result.{IsErrAnd}
 use Rattle.algebra.specs.Group.{GroupOps, GroupLaws}
@@ -23,10 +24,6 @@ use Rattle.history.specs.Steps.{key_of, accepted, decided, step}
 pub passed_on : {X F : Type 0} (r : Result X F) (e : F) → IsErrAnd r (λ x. x ≡ e) → r ≡ Err e
 passed_on (Ok x) e h = absurd h
 passed_on (Err y) e h = ap Err h
-
-true_T : (b : Bool) → b ≡ true → T b
-true_T true e = tt
-true_T false e = let z : ◌≡◌ {A = ℕ} 0 1 = cc in absurd (omega arith)
 
 not_differing : (a b : Bool) → differs a b ≡ false → b ≡ a
 not_differing true b e = not-false b e
@@ -83,7 +80,7 @@ module _ {C : Type 0} (G : GroupOps C) (s : Scheme) where
       }
 
   given_valid : (key : C) → first (row (not (G.valid key)) InvalidKey ∷ []) ≡ None → T (G.valid key)
-  given_valid key e = true_T (G.valid key) (not-false (G.valid key) (row_none (not (G.valid key)) InvalidKey (first_none _ _ e).0))
+  given_valid key e = T_from_true (G.valid key) (not-false (G.valid key) (row_none (not (G.valid key)) InvalidKey (first_none _ _ e).0))
 
   -- a refresh deals zero, which is valid
   dealt_valid : GroupLaws G → (d : Deal C) → first (key_rows G s d) ≡ None → T (G.valid (key_of G d))

@@ -1,6 +1,7 @@
 -- What an accepted call has passed, and that the rows on share memory pass where it is right.
 use Rattle.std.proofs.Common.{◌≡◌, ℕ, zero, suc, ◌+◌, ◌-◌, ◌*◌, ◌<◌, ◌≤◌, Bool, true, false, not, ◌||◌, T, ltb, leb, List, [], ◌∷◌, ◌++◌, length, get_or, Some, None, Option, refl, ap, ◌∙◌, arith}
 use Rattle.std.specs.List.{AllByRecursion}
+use Rattle.std.proofs.lemmas.Float.{T_from_true}
 use Rattle.std.proofs.lemmas.Bool.{cond-false, not_from_true, not-false, or_parts, ltb-false}
 use Rattle.algebra.specs.Group.{GroupOps, GroupLaws}
 use Rattle.algebra.specs.Tuples.{all_valid, invalid_at}
@@ -33,10 +34,6 @@ pub true_from : (b : Bool) → T b → b ≡ true
 true_from true h = refl
 true_from false h = absurd h
 
-pub from_true : (b : Bool) → b ≡ true → T b
-from_true true h = tt
-from_true false h = let z : ◌≡◌ {A = ℕ} 0 1 = cc in absurd (omega arith)
-
 module _ {F : Type 0} where
   -- rows that pass leave the verdict to the others
   pub skip_first : (o : Option F) (os : List (Option F)) → o ≡ None → first (o ∷ os) ≡ first os
@@ -49,7 +46,7 @@ module _ {F : Type 0} where
   pub both_pass : (os bs : List (Option F)) → first os ≡ None → first bs ≡ None → first (os ++ bs) ≡ None
   both_pass [] bs e f = f
   both_pass (None ∷ os) bs e f = both_pass os bs e f
-  both_pass (Some g ∷ os) bs e f = let z : ◌≡◌ {A = ℕ} 0 1 = cc in absurd (omega arith)
+  both_pass (Some g ∷ os) bs e f = cc
 
 module _ {C : Type 0} (G : GroupOps C) where
   pub valid_nowhere : (xs : List C) → T (all_valid G xs) → first_place (invalid_at G xs) 0 (length xs) ≡ None
@@ -96,8 +93,8 @@ module _ {C : Type 0} (G : GroupOps C) (L : GroupLaws G) (s : Scheme) where
     pub valid : T (all_valid G cs)
 
   key_none : (d : Deal C) → first (key_rows G s d) ≡ None → T (G.valid (key_of G d))
-  key_none (depositing k) e = let a = first_none _ _ e in from_true (G.valid k) (not-false (G.valid k) (row_none (not (G.valid k)) InvalidKey a.0))
-  key_none (withdrawing k) e = let a = first_none _ _ e in from_true (G.valid k) (not-false (G.valid k) (row_none (not (G.valid k)) InvalidKey a.0))
+  key_none (depositing k) e = let a = first_none _ _ e in T_from_true (G.valid k) (not-false (G.valid k) (row_none (not (G.valid k)) InvalidKey a.0))
+  key_none (withdrawing k) e = let a = first_none _ _ e in T_from_true (G.valid k) (not-false (G.valid k) (row_none (not (G.valid k)) InvalidKey a.0))
   key_none refreshing e = L.zero_valid
 
   key_passes : (d : Deal C) → T (G.valid (key_of G d)) → first (key_rows G s d) ≡ None
