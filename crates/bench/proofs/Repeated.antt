@@ -89,10 +89,6 @@ module _ {X E : Type 0} where
   pub on_refusal : (r : Result X E) (P : X → Type 0) (Q : E → Type 0) (f : E) → IsErrAnd r (λ x. x ≡ f) → Q f → MatchResult r P Q
   on_refusal r P Q f e q = subst (λ (z : Result X E). MatchResult z P Q) (sym (passed_on r f e)) q
 
-  pub so : (r : Result X E) (P P' : X → Type 0) (Q Q' : E → Type 0) → ((x : X) → P x → P' x) → ((e : E) → Q e → Q' e) → MatchResult r P Q → MatchResult r P' Q'
-  so (Ok x) P P' Q Q' f g p = f x p
-  so (Err e) P P' Q Q' f g q = g e q
-
   -- a result as whether it is accepted
   pub whether : (r : Result X E) {b : Bool} {P : X → Type 0} {Q : E → Type 0} (P' Q' : Type 0) → b ≡ is_ok r → MatchResult r P Q → ((x : X) → P x → P') → ((e : E) → Q e → Q') → MatchBool b P' Q'
   whether (Ok x) P' Q' e h f g = subst (λ (z : Bool). MatchBool z P' Q') (sym e) (f x h)

@@ -2,7 +2,7 @@
 use Rattle.std.proofs.Common.{◌≡◌, ℕ, ◌+◌, Bool, true, false, not, T, leb, List, [], ◌∷◌, ◌++◌, length, Some, None, Ok, Err, Option, Result, sym, refl, ap, ◌∙◌, subst, ap₂}
 use Rattle.std.specs.Result.{IsErrAnd}
 use Rattle.algebra.specs.Group.{GroupOps, GroupLaws}
-use Rattle.algebra.specs.Tuples.{all_valid, tuple_zero}
+use Rattle.algebra.specs.Tuples.{tuple_zero}
 use Rattle.sharing.specs.declared.fault.CabinetFault.{CabinetFault}
 use Rattle.sharing.specs.declared.fault.CabinetFault.TheVariants.{EpochLimit, InvalidKey}
 use Rattle.sharing.specs.declared.scheme.Scheme.{Scheme}
@@ -14,7 +14,7 @@ use Rattle.history.specs.Rules.{last_epoch, memory_rows, coefficient_rows, deal_
 use Rattle.history.specs.Steps.{key_of}
 use Rattle.history.proofs.Refusals.{refused_step}
 use Rattle.history.proofs.Stepping.{dealt_step}
-use Rattle.custody.specs.Dealings.{keyed_rows, keyed_out, Deals}
+use Rattle.custody.specs.Dealings.{OfValid, keyed_rows, keyed_out, Deals}
 
 same_rest : {F : Type 0} (os bs cs : List (Option F)) → first bs ≡ first cs → first (os ++ bs) ≡ first (os ++ cs)
 same_rest [] bs cs e = e
@@ -49,7 +49,7 @@ module _ {C : Type 0} (G : GroupOps C) (L : GroupLaws G) (s : Scheme) where
     refused_deal r e p v d f h = refused_step G s epoch_is st working (dealing d cs) r e p (v ∙ ap verdict (fault_of d h))
 
     pub accepted_deal : (shares' working' : List C) (m : ℕ) → Ok tt ≡ verdict (first rows_of)
-        → (T (all_valid G st.shares) → T (G.valid key) → T (all_valid G cs) → shares' ≡ keyed_out G s change st.ledger.holders st.shares key cs)
+        → OfValid G st.shares key cs (shares' ≡ keyed_out G s change st.ledger.holders st.shares key cs)
         → working' ≡ tuple_zero G m → length working' ≡ length working
         → Deals G s st working change key cs (record { answer = epoch_is (st.ledger.epoch + 1); state = record { ledger = at_epoch (st.ledger.epoch + 1) st.ledger; shares = shares' }; working = working' })
     accepted_deal shares' working' m v deal zeros same d f h =
