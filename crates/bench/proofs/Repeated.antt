@@ -1,6 +1,6 @@
 -- One more of the same call.
 use Rattle.std.proofs.Common.{◌≡◌, ℕ, Bool, MatchBool, ◌+◌, ◌-◌, ◌*◌, List, length, Some, None, Ok, Err, Option, Result, sym, refl, ap, ◌∙◌, subst, add-one, MatchResult}
-use Rattle.std.specs.Result.{is_ok}
+use Rattle.std.specs.Result.{IsErrAnd, is_ok}
 use Rattle.algebra.specs.Group.{GroupOps}
 use Rattle.algebra.specs.Tuples.{tuple_zero}
 use Rattle.sharing.specs.declared.fault.CabinetFault.{CabinetFault}
@@ -10,6 +10,7 @@ use Rattle.history.specs.Ledgers.{fresh}
 use Rattle.history.specs.Calls.{State, Call, Answer, key_is, refused, answered, Outcome}
 use Rattle.history.specs.Rules.{fault}
 use Rattle.history.specs.Steps.{made, accepted, decided, step}
+use Rattle.history.proofs.Refusals.{passed_on}
 use Rattle.bench.specs.Rounds.{after, Stopped}
 
 module _ {C : Type 0} where
@@ -85,12 +86,8 @@ module _ {C : Type 0} where
   by_answer (Err x) P Q a e f g = g x e
 
 module _ {X E : Type 0} where
-  pub on_refusal : (r : Result X E) (P : X → Type 0) (Q : E → Type 0) (f : E) → r ≡ Err f → Q f → MatchResult r P Q
-  on_refusal r P Q f e q = subst (λ (z : Result X E). MatchResult z P Q) (sym e) q
-
-  pub so : (r : Result X E) (P P' : X → Type 0) (Q Q' : E → Type 0) → ((x : X) → P x → P' x) → ((e : E) → Q e → Q' e) → MatchResult r P Q → MatchResult r P' Q'
-  so (Ok x) P P' Q Q' f g p = f x p
-  so (Err e) P P' Q Q' f g q = g e q
+  pub on_refusal : (r : Result X E) (P : X → Type 0) (Q : E → Type 0) (f : E) → IsErrAnd r (λ x. x ≡ f) → Q f → MatchResult r P Q
+  on_refusal r P Q f e q = subst (λ (z : Result X E). MatchResult z P Q) (sym (passed_on r f e)) q
 
   -- a result as whether it is accepted
   pub whether : (r : Result X E) {b : Bool} {P : X → Type 0} {Q : E → Type 0} (P' Q' : Type 0) → b ≡ is_ok r → MatchResult r P Q → ((x : X) → P x → P') → ((e : E) → Q e → Q') → MatchBool b P' Q'

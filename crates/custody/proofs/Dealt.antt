@@ -15,16 +15,16 @@ use Rattle.history.specs.declared.ledger.Holder.{Holder}
 use Rattle.history.specs.Ledgers.{is_present}
 use Rattle.history.specs.Steps.{credited}
 use Rattle.history.proofs.SharedOut.{row_credited, Shared, present_at, share_step, share_end}
-use Rattle.custody.specs.Dealings.{keyed_out}
+use Rattle.custody.specs.Dealings.{OfValid, keyed_to, keyed_out}
 
 -- an accepted call was not refused
 pub never_refused : {F X : Type 0} (f : F) (x : X) → ◌≡◌ {A = Result X F} (Err f) (Ok x) → ⊥
-never_refused f x e = let z : ◌≡◌ {A = ℕ} 0 1 = cc in omega arith
+never_refused f x e = cc
 
 module _ {C : Type 0} (G : GroupOps C) (L : GroupLaws G) (d : Change) (w h : ℕ) (k : C) (cs xs ys after : List C) (b : Bool) where
   pub dealt_present : (Q : CabinetFault → Type 0) (r : Result (Unit {0}) CabinetFault) (o : Option CabinetFault) → o ≡ None → r ≡ verdict o → b ≡ true
-      → MatchResult r (λ _. T (all_valid G xs) → T (G.valid k) → T (all_valid G cs) → after ≡ put_row w h (changed G d (row_at w h xs) ys) xs) Q
-      → MatchResult r (λ _. T (all_valid G xs) → T (G.valid k) → T (all_valid G cs) → after ≡ put_row w h (credited G d b ys (row_at w h xs)) xs) (λ _. ⊥)
+      → MatchResult r (λ _. OfValid G xs k cs (after ≡ put_row w h (changed G d (row_at w h xs) ys) xs)) Q
+      → MatchResult r (λ _. OfValid G xs k cs (after ≡ put_row w h (credited G d b ys (row_at w h xs)) xs)) (λ _. ⊥)
   dealt_present Q (Ok u) o e v t f = λ p q s. f p q s ∙ row_credited G L d w h xs ys b t
   dealt_present Q (Err x) o e v t f = never_refused x tt (v ∙ ap verdict e)
 
@@ -34,7 +34,7 @@ module _ {C : Type 0} (G : GroupOps C) (L : GroupLaws G) (s : Scheme) (d : Chang
 
   -- the holders below this one are dealt to, and then this one too
   pub deal_step : (xs₀ xs after : List C) (holder : ℕ) → 1 ≤ holder → holder ≤ s.n → length xs ≡ s.n * (s.q - 1) → length cs ≡ (s.t - 1) * (s.q - 1)
-      → (T (all_valid G xs) → T (G.valid k) → T (all_valid G cs) → after ≡ put_row (s.q - 1) (holder - 1) (credited G d (is_present hs holder) (dealt G (s.q - 1) holder k (s.t - 1) cs) (row_at (s.q - 1) (holder - 1) xs)) xs)
+      → OfValid G xs k cs (after ≡ keyed_to G s d hs holder xs k cs)
       → T (G.valid k) → T (all_valid G cs) → Out xs₀ (holder - 1) xs → Out xs₀ (holder + 1 - 1) after
   deal_step xs₀ xs after holder low high full count deal q r inv =
       let w : ℕ = s.q - 1 in

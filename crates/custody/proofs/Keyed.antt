@@ -1,7 +1,8 @@
 -- A dealing of a key in a direction, as a step: a deposit, a withdrawal or a refresh.
 use Rattle.std.proofs.Common.{◌≡◌, ℕ, ◌+◌, Bool, true, false, not, T, leb, List, [], ◌∷◌, ◌++◌, length, Some, None, Ok, Err, Option, Result, sym, refl, ap, ◌∙◌, subst, ap₂}
+use Rattle.std.specs.Result.{IsErrAnd}
 use Rattle.algebra.specs.Group.{GroupOps, GroupLaws}
-use Rattle.algebra.specs.Tuples.{all_valid, tuple_zero}
+use Rattle.algebra.specs.Tuples.{tuple_zero}
 use Rattle.sharing.specs.declared.fault.CabinetFault.{CabinetFault}
 use Rattle.sharing.specs.declared.fault.CabinetFault.TheVariants.{EpochLimit, InvalidKey}
 use Rattle.sharing.specs.declared.scheme.Scheme.{Scheme}
@@ -13,7 +14,7 @@ use Rattle.history.specs.Rules.{last_epoch, memory_rows, coefficient_rows, deal_
 use Rattle.history.specs.Steps.{key_of}
 use Rattle.history.proofs.Refusals.{refused_step}
 use Rattle.history.proofs.Stepping.{dealt_step}
-use Rattle.custody.specs.Dealings.{keyed_rows, keyed_out, Deals}
+use Rattle.custody.specs.Dealings.{OfValid, keyed_rows, keyed_out, Deals}
 
 same_rest : {F : Type 0} (os bs cs : List (Option F)) → first bs ≡ first cs → first (os ++ bs) ≡ first (os ++ cs)
 same_rest [] bs cs e = e
@@ -43,12 +44,12 @@ module _ {C : Type 0} (G : GroupOps C) (L : GroupLaws G) (s : Scheme) where
         ap (λ (k : C). first (memory_rows G s st.shares (length working) ++ keyed_rows G s st.ledger.epoch k cs)) (sym e)
         ∙ same_rest (memory_rows G s st.shares (length working)) (keyed_rows G s st.ledger.epoch (key_of G d) cs) (deal_rows G s st.ledger.epoch d cs) (keyed st.ledger.epoch d cs)
 
-    pub refused_deal : (r : Result ℕ CabinetFault) (e : CabinetFault) → r ≡ Err e → Err e ≡ verdict (first rows_of)
+    pub refused_deal : (r : Result ℕ CabinetFault) (e : CabinetFault) → IsErrAnd r (λ x. x ≡ e) → Err e ≡ verdict (first rows_of)
         → Deals G s st working change key cs (record { answer = answered epoch_is r; state = st; working = working })
     refused_deal r e p v d f h = refused_step G s epoch_is st working (dealing d cs) r e p (v ∙ ap verdict (fault_of d h))
 
     pub accepted_deal : (shares' working' : List C) (m : ℕ) → Ok tt ≡ verdict (first rows_of)
-        → (T (all_valid G st.shares) → T (G.valid key) → T (all_valid G cs) → shares' ≡ keyed_out G s change st.ledger.holders st.shares key cs)
+        → OfValid G st.shares key cs (shares' ≡ keyed_out G s change st.ledger.holders st.shares key cs)
         → working' ≡ tuple_zero G m → length working' ≡ length working
         → Deals G s st working change key cs (record { answer = epoch_is (st.ledger.epoch + 1); state = record { ledger = at_epoch (st.ledger.epoch + 1) st.ledger; shares = shares' }; working = working' })
     accepted_deal shares' working' m v deal zeros same d f h =

@@ -1,6 +1,8 @@
 -- What is known where no row applies, and where one does.
-use Rattle.std.proofs.Common.{◌≡◌, ℕ, ◌-◌, ◌*◌, ◌<◌, ◌≤◌, Bool, true, false, not, ◌||◌, T, ltb, leb, List, [], ◌∷◌, length, None, Ok, Err, Option, Result, sym, ap, ◌∙◌, arith}
+use Rattle.std.proofs.Common.{◌≡◌, ℕ, ◌-◌, ◌*◌, ◌<◌, ◌≤◌, Bool, true, false, not, ◌||◌, T, ltb, leb, List, [], ◌∷◌, length, None, Ok, Err, Option, Result, sym, ap, ◌∙◌}
+use Rattle.std.proofs.lemmas.Float.{T_from_true}
 use Rattle.std.proofs.lemmas.Bool.{not-false, leb-false, ltb-false, or_parts}
+use Rattle.std.specs.Result.{IsErrAnd}
 use Rattle.algebra.specs.Group.{GroupOps, GroupLaws}
 use Rattle.algebra.specs.Tuples.{all_valid, invalid_at}
 use Rattle.algebra.specs.Rows.{first_place}
@@ -18,9 +20,10 @@ use Rattle.history.specs.Calls.{State, Deal, depositing, withdrawing, refreshing
 use Rattle.history.specs.Rules.{differs, last_epoch, share_row, valid_row, memory_rows, key_rows, coefficient_rows, deal_rows, change_rows, list_rows, missing_at, fault}
 use Rattle.history.specs.Steps.{key_of, accepted, decided, step}
 
-true_T : (b : Bool) → b ≡ true → T b
-true_T true e = tt
-true_T false e = let z : ◌≡◌ {A = ℕ} 0 1 = cc in absurd (omega arith)
+-- what a `?` that passes a refusal on returns
+pub passed_on : {X F : Type 0} (r : Result X F) (e : F) → IsErrAnd r (λ x. x ≡ e) → r ≡ Err e
+passed_on (Ok x) e h = absurd h
+passed_on (Err y) e h = ap Err h
 
 not_differing : (a b : Bool) → differs a b ≡ false → b ≡ a
 not_differing true b e = not-false b e
@@ -77,7 +80,7 @@ module _ {C : Type 0} (G : GroupOps C) (s : Scheme) where
       }
 
   given_valid : (key : C) → first (row (not (G.valid key)) InvalidKey ∷ []) ≡ None → T (G.valid key)
-  given_valid key e = true_T (G.valid key) (not-false (G.valid key) (row_none (not (G.valid key)) InvalidKey (first_none _ _ e).0))
+  given_valid key e = T_from_true (G.valid key) (not-false (G.valid key) (row_none (not (G.valid key)) InvalidKey (first_none _ _ e).0))
 
   -- a refresh deals zero, which is valid
   dealt_valid : GroupLaws G → (d : Deal C) → first (key_rows G s d) ≡ None → T (G.valid (key_of G d))
@@ -117,12 +120,12 @@ module _ {C : Type 0} (G : GroupOps C) (s : Scheme) where
 
   -- a call that was refused leaves everything as it was, whatever it would have done
   pub refused_step : {X : Type 0} (f : X → Answer C) (st : State C) (working : List C) (c : Call C) (r : Result X CabinetFault) (e : CabinetFault)
-      → r ≡ Err e → Err e ≡ verdict (fault G s st (length working) c)
+      → IsErrAnd r (λ x. x ≡ e) → Err e ≡ verdict (fault G s st (length working) c)
       → step G s st working c ≡ record { answer = answered f r; state = st; working = working }
   refused_step f st working c r e p v =
       let with : Answer C → Outcome C = λ a. record { answer = a; state = st; working = working } in
       ap (λ (o : Option CabinetFault). decided G s o st working (accepted G s st working c)) (verdict_err (fault G s st (length working) c) e (sym v))
-      ∙ ap (λ (x : Result _ CabinetFault). with (answered f x)) (sym p)
+      ∙ ap (λ (x : Result _ CabinetFault). with (answered f x)) (sym (passed_on r e p))
 
   -- a call that was accepted
   pub accepted_step : (st : State C) (working : List C) (c : Call C) (after : Outcome C)

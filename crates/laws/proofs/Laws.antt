@@ -103,17 +103,17 @@ module _ {C : Type 0} (G : GroupOps C) (L : GroupLaws G) (s : Scheme) where
       omega arith
 
   not_refused : (l : Ledger) (k : C) (c : Call C) (f : CabinetFault) → foretold_by G L s None l k c ≡ refused f → ⊥
-  not_refused l k (dealing d cs) f e = let z : ◌≡◌ {A = ℕ} 0 1 = cc in omega arith
-  not_refused l k (revoking h) f e = let z : ◌≡◌ {A = ℕ} 0 1 = cc in omega arith
-  not_refused l k (repairing h hs) f e = let z : ◌≡◌ {A = ℕ} 0 1 = cc in omega arith
-  not_refused l k (opening hs) f e = let z : ◌≡◌ {A = ℕ} 0 1 = cc in omega arith
+  not_refused l k (dealing d cs) f e = cc
+  not_refused l k (revoking h) f e = cc
+  not_refused l k (repairing h hs) f e = cc
+  not_refused l k (opening hs) f e = cc
 
   opens_by : (x : Entry C) (k : C) (v : Option CabinetFault) → public_fault G s x.before.ledger (length x.request.working) x.request.call ≡ v
       → x.answer ≡ foretold_by G L s v x.before.ledger k x.request.call → Opens G s k x
   opens_by x k (Some f) e h = record {
     opened = λ hs c n. let m : public_fault G s x.before.ledger (length x.request.working) x.request.call ≡ None = ap (public_fault G s x.before.ledger (length x.request.working)) c ∙ n in
-        let z : ◌≡◌ {A = ℕ} 0 1 = cc in absurd (omega arith);
-    returned = λ hs r c a. let z : ◌≡◌ {A = ℕ} 0 1 = cc in absurd (omega arith);
+        cc;
+    returned = λ hs r c a. cc;
     agreed = λ hs i c a. let m : f ≡ Disagreement i = cc in
         agrees x.before.ledger (length x.request.working) hs i
         (ap (public_fault G s x.before.ledger (length x.request.working)) (sym c) ∙ e ∙ ap Some m);

@@ -1,26 +1,25 @@
 -- What an accepted call has passed, and that the rows on share memory pass where it is right.
-use Rattle.std.proofs.Common.{◌≡◌, ℕ, zero, suc, ◌+◌, ◌-◌, ◌*◌, ◌<◌, ◌≤◌, Bool, true, false, not, ◌||◌, T, ltb, leb, List, [], ◌∷◌, ◌++◌, length, get_or, Some, None, Option, refl, ap, ◌∙◌, arith}
+use Rattle.std.proofs.Common.{◌≡◌, ℕ, zero, suc, ◌+◌, ◌-◌, ◌*◌, ◌<◌, ◌≤◌, Bool, true, false, not, T, leb, List, [], ◌∷◌, ◌++◌, length, get_or, Some, None, Option, refl, ap, ◌∙◌, arith}
 use Rattle.std.specs.List.{AllByRecursion}
-use Rattle.std.proofs.lemmas.Bool.{cond-false, not_from_true, not-false, or_parts, ltb-false}
+use Rattle.std.proofs.lemmas.Bool.{cond-false, not_from_true, not-false}
 use Rattle.algebra.specs.Group.{GroupOps, GroupLaws}
 use Rattle.algebra.specs.Tuples.{all_valid, invalid_at}
 use Rattle.algebra.specs.Valid.{valid_at}
 use Rattle.algebra.specs.Theorems.{Distinct}
 use Rattle.algebra.specs.Rows.{first_place}
-use Rattle.algebra.proofs.Places.{all_from_nowhere}
 use Rattle.sharing.specs.declared.fault.CabinetFault.{CabinetFault}
-use Rattle.sharing.specs.declared.fault.CabinetFault.TheVariants.{MemoryLength, InvalidShare, EpochLimit, InvalidKey, CoefficientCount, InvalidCoefficient, UnknownHolder, MissingHelper}
+use Rattle.sharing.specs.declared.fault.CabinetFault.TheVariants.{MemoryLength, InvalidShare, EpochLimit, InvalidKey, CoefficientCount, InvalidCoefficient}
 use Rattle.sharing.specs.declared.scheme.Scheme.{Scheme}
 use Rattle.sharing.specs.Verdicts.{row, located, length_row, first}
-use Rattle.sharing.specs.Helpers.{helper_rows}
-use Rattle.sharing.proofs.Verdicts.{first_none, both_none, row_none, length_none, located_none, everywhere, length_fits, row_passes, first_passes}
-use Rattle.sharing.proofs.Choosing.{chosen, all_places}
+use Rattle.sharing.proofs.Verdicts.{first_none, both_none, length_fits, row_passes, first_passes}
+use Rattle.sharing.proofs.Choosing.{all_places}
 use Rattle.history.specs.declared.ledger.Holder.{Holder}
 use Rattle.history.specs.declared.ledger.Ledger.{Ledger}
 use Rattle.history.specs.Ledgers.{is_present}
 use Rattle.history.specs.Calls.{State, Deal, depositing, withdrawing, refreshing, Call, dealing, revoking, repairing, opening}
-use Rattle.history.specs.Rules.{missing_at, list_rows, change_rows, share_row, valid_row, memory_rows, key_rows, coefficient_rows, deal_rows, last_epoch, fault}
+use Rattle.history.specs.Rules.{list_rows, change_rows, share_row, valid_row, memory_rows, key_rows, coefficient_rows, deal_rows, last_epoch, fault}
 use Rattle.history.specs.Steps.{key_of}
+use Rattle.history.proofs.Refusals.{may_deal, changing, quorum}
 use Rattle.laws.specs.Histories.{public_fault}
 
 -- a test that fails everywhere has no first place
@@ -32,10 +31,6 @@ nowhere_from p i (suc k) h =
 pub true_from : (b : Bool) → T b → b ≡ true
 true_from true h = refl
 true_from false h = absurd h
-
-pub from_true : (b : Bool) → b ≡ true → T b
-from_true true h = tt
-from_true false h = let z : ◌≡◌ {A = ℕ} 0 1 = cc in absurd (omega arith)
 
 module _ {F : Type 0} where
   -- rows that pass leave the verdict to the others
@@ -49,7 +44,7 @@ module _ {F : Type 0} where
   pub both_pass : (os bs : List (Option F)) → first os ≡ None → first bs ≡ None → first (os ++ bs) ≡ None
   both_pass [] bs e f = f
   both_pass (None ∷ os) bs e f = both_pass os bs e f
-  both_pass (Some g ∷ os) bs e f = let z : ◌≡◌ {A = ℕ} 0 1 = cc in absurd (omega arith)
+  both_pass (Some g ∷ os) bs e f = cc
 
 module _ {C : Type 0} (G : GroupOps C) where
   pub valid_nowhere : (xs : List C) → T (all_valid G xs) → first_place (invalid_at G xs) 0 (length xs) ≡ None
@@ -61,25 +56,6 @@ pub record Listed (s : Scheme) (holders : List Holder) (hs : List ℕ) : Type 0 
   pub known : AllByRecursion (λ h. (1 ≤ h) × (h ≤ s.n)) hs
   pub different : Distinct hs
   pub there : AllByRecursion (λ h. is_present holders h ≡ true) hs
-
-pub listed : (s : Scheme) (holders : List Holder) (hs : List ℕ) → first (list_rows s holders hs) ≡ None → Listed s holders hs
-listed s holders hs e =
-    let a = both_none (helper_rows s hs) _ e in
-    let c = chosen s hs a.0 in
-    let m = first_none _ _ a.1 in
-    record {
-      right = c.right;
-      known = all_places (λ h. (1 ≤ h) × (h ≤ s.n)) hs c.known;
-      different = c.different;
-      there = all_places (λ h. is_present holders h ≡ true) hs (λ k l. not-false (is_present holders (get_or hs k 0)) (everywhere (missing_at holders hs) MissingHelper (length hs) m.0 k l));
-    }
-
--- a holder that is revoked or repaired
-pub changeable : (s : Scheme) (holders : List Holder) (present : Bool) (h : ℕ) → first (change_rows s holders present h) ≡ None → (1 ≤ h) × (h ≤ s.n)
-changeable s holders present h e =
-    let a = first_none _ _ e in
-    let o = or_parts (ltb h 1) (ltb s.n h) (row_none (ltb h 1 || ltb s.n h) UnknownHolder a.0) in
-    (ltb-false h 1 o.0, ltb-false s.n h o.1)
 
 -- the rows on working memory and on the last epoch
 abbrev pub lent_row : Scheme → ℕ → Option CabinetFault
@@ -95,11 +71,6 @@ module _ {C : Type 0} (G : GroupOps C) (L : GroupLaws G) (s : Scheme) where
     pub count : length cs ≡ (s.t - 1) * (s.q - 1)
     pub valid : T (all_valid G cs)
 
-  key_none : (d : Deal C) → first (key_rows G s d) ≡ None → T (G.valid (key_of G d))
-  key_none (depositing k) e = let a = first_none _ _ e in from_true (G.valid k) (not-false (G.valid k) (row_none (not (G.valid k)) InvalidKey a.0))
-  key_none (withdrawing k) e = let a = first_none _ _ e in from_true (G.valid k) (not-false (G.valid k) (row_none (not (G.valid k)) InvalidKey a.0))
-  key_none refreshing e = L.zero_valid
-
   key_passes : (d : Deal C) → T (G.valid (key_of G d)) → first (key_rows G s d) ≡ None
   key_passes (depositing k) h = first_passes _ [] (row_passes (not (G.valid k)) InvalidKey (not_from_true (G.valid k) (true_from (G.valid k) h))) refl
   key_passes (withdrawing k) h = first_passes _ [] (row_passes (not (G.valid k)) InvalidKey (not_from_true (G.valid k) (true_from (G.valid k) h))) refl
@@ -111,16 +82,7 @@ module _ {C : Type 0} (G : GroupOps C) (L : GroupLaws G) (s : Scheme) where
       (first_passes _ [] (ap (located InvalidCoefficient) (valid_nowhere G cs h)) refl)
 
   pub proper : (epoch : ℕ) (d : Deal C) (cs : List C) → first (deal_rows G s epoch d cs) ≡ None → Proper d cs
-  proper epoch d cs e =
-      let a = first_none (late epoch) (key_rows G s d ++ coefficient_rows G s cs) e in
-      let b = both_none (key_rows G s d) (coefficient_rows G s cs) a.1 in
-      let c = first_none _ _ b.1 in
-      let v = first_none _ _ c.1 in
-      record {
-        key = key_none d b.0;
-        count = length_none CoefficientCount ((s.t - 1) * (s.q - 1)) (length cs) c.0;
-        valid = all_from_nowhere G cs (located_none InvalidCoefficient _ v.0);
-      }
+  proper epoch d cs e = let m = may_deal G s L epoch d cs e in record { key = m.key_valid; count = m.count; valid = m.coefficients }
 
   -- another dealing at the same epoch is accepted too
   pub same_passes : (epoch : ℕ) (d : Deal C) (cs : List C) → first (deal_rows G s epoch d cs) ≡ None → (d' : Deal C) (cs' : List C) → Proper d' cs' → first (deal_rows G s epoch d' cs') ≡ None
@@ -135,17 +97,30 @@ module _ {C : Type 0} (G : GroupOps C) (L : GroupLaws G) (s : Scheme) where
   pub deal_none : (l : Ledger) (lent : ℕ) (d : Deal C) (cs : List C) → public_fault G s l lent (dealing d cs) ≡ None → first (deal_rows G s l.epoch d cs) ≡ None
   deal_none l lent d cs e = (first_none (lent_row s lent) (deal_rows G s l.epoch d cs) e).1
 
+  changeable : (holders : List Holder) (present : Bool) (h : ℕ) → first (change_rows s holders present h) ≡ None → (1 ≤ h) × (h ≤ s.n)
+  changeable holders present h e = let c = changing G s holders present h e in (c.low, c.high)
+
+  listed : (holders : List Holder) (hs : List ℕ) → first (list_rows s holders hs) ≡ None → Listed s holders hs
+  listed holders hs e =
+      let q = quorum G s holders hs e in
+      record {
+        right = q.chosen.right;
+        known = all_places (λ h. (1 ≤ h) × (h ≤ s.n)) hs q.chosen.known;
+        different = q.chosen.different;
+        there = all_places (λ h. is_present holders h ≡ true) hs (λ k l. not-false (is_present holders (get_or hs k 0)) (q.present k l));
+      }
+
   pub revoke_none : (l : Ledger) (lent h : ℕ) → public_fault G s l lent (revoking h) ≡ None → (1 ≤ h) × (h ≤ s.n)
-  revoke_none l lent h e = changeable s l.holders true h e
+  revoke_none l lent h e = changeable l.holders true h e
 
   pub repair_none : (l : Ledger) (lent h : ℕ) (hs : List ℕ) → public_fault G s l lent (repairing h hs) ≡ None → ((1 ≤ h) × (h ≤ s.n)) × Listed s l.holders hs
   repair_none l lent h hs e =
       let a = first_none (lent_row s lent) (change_rows s l.holders false h ++ list_rows s l.holders hs) e in
       let b = both_none (change_rows s l.holders false h) (list_rows s l.holders hs) a.1 in
-      (changeable s l.holders false h b.0, listed s l.holders hs b.1)
+      (changeable l.holders false h b.0, listed l.holders hs b.1)
 
   pub open_none : (l : Ledger) (lent : ℕ) (hs : List ℕ) → public_fault G s l lent (opening hs) ≡ None → Listed s l.holders hs
-  open_none l lent hs e = listed s l.holders hs (first_none (lent_row s lent) (list_rows s l.holders hs) e).1
+  open_none l lent hs e = listed l.holders hs (first_none (lent_row s lent) (list_rows s l.holders hs) e).1
 
   -- a state with the cabinet's own memory
   pub record Sound (st : State C) : Type 0 where

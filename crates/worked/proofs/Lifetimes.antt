@@ -60,7 +60,7 @@ module _ {C : Type 0} (G : GroupOps C) (s : Scheme) where
       → decided G s v st w (accepted G s st w (dealing d cs)) ≡ leaves (epoch_is n) st' w' → n ≡ st'.ledger.epoch
   epoch_by (Some f) st st' w w' d cs n e =
       let q : ◌≡◌ {A = Answer C} (refused f) (epoch_is n) = ap (λ (o : Outcome C). o.answer) e in
-      let z : ◌≡◌ {A = ℕ} 0 1 = cc in absurd (omega arith)
+      cc
   epoch_by None st st' w w' d cs n e = sym (ap (λ (o : Outcome C). told_epoch o.answer) e) ∙ ap (λ (o : Outcome C). o.state.ledger.epoch) e
 
   epoch_left : (st st' : State C) (w w' : List C) (d : Deal C) (cs : List C) (n : ℕ) → step G s st w (dealing d cs) ≡ leaves (epoch_is n) st' w' → n ≡ st'.ledger.epoch

@@ -1,5 +1,4 @@
-use Rattle.std.proofs.Common.{◌≡◌, length, Err, ap, ◌∙◌, arith}
-use Rattle.std.proofs.lemmas.Result.{err_from_is_err_and}
+use Rattle.std.proofs.Common.{◌≡◌, length, ap, ◌∙◌, arith}
 use Rattle.history.specs.Calls.{dealing, depositing, refused}
 use Rattle.custody.specs.States.{state_of}
 use Rattle.bench.specs.Rounds.{after}
@@ -31,11 +30,10 @@ returns-in_err-deposit g c =
     let st = state_of C c.args.shares.now in
     let same = c.loop-done.invariant.0 in
     let kept = c.deposit.ensures.same in
-    let p = err_from_is_err_and c.from_residual.result c.from_residual.ensures.1 in
     let len : length c.loop-done.working ≡ length c.args.working.now = omega arith in
     record {
       same = (kept.0 ∙ same.0, kept.1 ∙ same.1, kept.2 ∙ same.2);
-      state = on_refusal c.from_residual.result _ _ f (p.1 ∙ ap Err p.2)
+      state = on_refusal c.from_residual.result _ _ f c.from_residual.ensures.1
           (
           record {
             round = c.loop-done._done;

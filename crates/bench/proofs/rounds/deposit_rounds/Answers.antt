@@ -1,15 +1,14 @@
-use Rattle.std.proofs.Common.{length, Err, ap, ◌∙◌}
-use Rattle.std.proofs.lemmas.Result.{err_from_is_err_and}
+use Rattle.std.proofs.Common.{length, ap}
+use Rattle.std.proofs.lemmas.Result.{MatchResult-weaker}
 use Rattle.history.specs.Calls.{dealing, depositing}
 use Rattle.custody.specs.States.{state_of}
 use Rattle.bench.specs.Rounds.{no_cabinet, no_deposit}
-use Rattle.bench.proofs.Repeated.{begun, stopped, on_refusal, so}
+use Rattle.bench.proofs.Repeated.{begun, stopped, on_refusal}
 use Rattle.bench.proofs.rounds.deposit_rounds.Goals as goal
 
 pub returns-in_err-scheme : goal.returns-in_err-scheme
 returns-in_err-scheme g c =
-    let p = err_from_is_err_and c.from_residual.result c.from_residual.ensures.1 in
-    on_refusal c.from_residual.result _ _ c.in_err-scheme.field-0.0 (p.1 ∙ ap Err p.2) (no_cabinet c.in_err-scheme.ensures)
+    on_refusal c.from_residual.result _ _ c.in_err-scheme.field-0.0 c.from_residual.ensures.1 (no_cabinet c.in_err-scheme.ensures)
 
 pub returns : goal.returns
 returns g c =
@@ -20,7 +19,7 @@ returns g c =
     let new = c.make-cabinet.ensures.cabinet in
     let sized = c.in_ok-scheme.ensures in
     let call = dealing (depositing c.args.key) c.args.coefficients.now in
-    so c.deposit_again.result _ _ _ _
+    MatchResult-weaker c.deposit_again.result c.deposit_again.ensures.state
     (
     λ u e.
     record {
@@ -37,4 +36,3 @@ returns g c =
     (length c.args.shares.now) C.ledger c.make-cabinet.new.shares f
     (ap ops new.0) new.1 new.3 c.make-cabinet.ensures.shares sized.2 z)
     )
-    c.deposit_again.ensures.state

@@ -1,5 +1,4 @@
-use Rattle.std.proofs.Common.{◌≡◌, length, Err, ap, ◌∙◌, arith}
-use Rattle.std.proofs.lemmas.Result.{err_from_is_err_and}
+use Rattle.std.proofs.Common.{◌≡◌, length, ap, ◌∙◌, arith}
 use Rattle.history.specs.Calls.{dealing, depositing, opening, key_is, answered}
 use Rattle.history.specs.Steps.{made, step}
 use Rattle.custody.specs.States.{state_of}
@@ -9,8 +8,7 @@ use Rattle.bench.proofs.rounds.open_rounds.Goals as goal
 
 pub returns-in_err-scheme : goal.returns-in_err-scheme
 returns-in_err-scheme g c =
-    let p = err_from_is_err_and c.from_residual.result c.from_residual.ensures.1 in
-    on_refusal c.from_residual.result _ _ c.in_err-scheme.field-0.0 (p.1 ∙ ap Err p.2) (not_dealt (no_cabinet c.in_err-scheme.ensures))
+    on_refusal c.from_residual.result _ _ c.in_err-scheme.field-0.0 c.from_residual.ensures.1 (not_dealt (no_cabinet c.in_err-scheme.ensures))
 
 pub returns-in_err-deposit_again : goal.returns-in_err-deposit_again
 returns-in_err-deposit_again g c =
@@ -20,8 +18,7 @@ returns-in_err-deposit_again g c =
     let new = c.make-cabinet.ensures.cabinet in
     let sized = c.in_ok-scheme.ensures in
     let f = c.in_err-deposit_again.field-0.0 in
-    let p = err_from_is_err_and c.from_residual-in_err-deposit_again.result c.from_residual-in_err-deposit_again.ensures.1 in
-    on_refusal c.from_residual-in_err-deposit_again.result _ _ f (p.1 ∙ ap Err p.2)
+    on_refusal c.from_residual-in_err-deposit_again.result _ _ f c.from_residual-in_err-deposit_again.ensures.1
     (not_dealt (no_deposit S sized.0 sized.1 (stopped (ops c.args.group) (ops C.group) S C.scheme c.args.working.now (dealing (depositing c.args.key) c.args.coefficients.now) 1
     (length c.args.shares.now) C.ledger c.make-cabinet.new.shares f
     (ap ops new.0) new.1 new.3 c.make-cabinet.ensures.shares sized.2 c.in_err-deposit_again.ensures.state)))

@@ -1,5 +1,4 @@
-use Rattle.std.proofs.Common.{Err, refl, ap, ◌∙◌, arith}
-use Rattle.std.proofs.lemmas.Result.{err_from_is_err_and}
+use Rattle.std.proofs.Common.{refl, arith}
 use Rattle.history.specs.Calls.{depositing}
 use Rattle.history.proofs.Stepping.{dealing_fine}
 use Rattle.custody.specs.States.{state_of}
@@ -9,10 +8,9 @@ use Rattle.custody.proofs.cabinet.Cabinet.deal.Goals as goal
 pub returns-in_err-check_dealing : goal.returns-in_err-check_dealing
 returns-in_err-check_dealing g c =
     let C = c.args.self.now in
-    let p = err_from_is_err_and c.from_residual.result c.from_residual.ensures.1 in
     record {
       step = refused_deal (g.G.Group.ops C.group) (g.met.G.Group.laws C.group) C.scheme (state_of C c.args.shares.now) c.args.working.now c.args.change c.args.key c.args.coefficients.now
-          c.from_residual.result c.in_err-check_dealing.field-0.0 (p.1 ∙ ap Err p.2) c.in_err-check_dealing.ensures;
+          c.from_residual.result c.in_err-check_dealing.field-0.0 c.from_residual.ensures.1 c.in_err-check_dealing.ensures;
       same = (refl, refl, refl);
     }
 

@@ -1,5 +1,4 @@
-use Rattle.std.proofs.Common.{Err, ap, ◌∙◌, arith}
-use Rattle.std.proofs.lemmas.Result.{err_from_is_err_and}
+use Rattle.std.proofs.Common.{ap, ◌∙◌, arith}
 use Rattle.sharing.specs.Verdicts.{verdict}
 use Rattle.sharing.proofs.Choosing.{takeable}
 use Rattle.history.specs.Calls.{opening, key_is}
@@ -12,9 +11,8 @@ use Rattle.custody.proofs.cabinet.Cabinet.open.Goals as goal
 pub returns-in_err-check_opening : goal.returns-in_err-check_opening
 returns-in_err-check_opening g c =
     let C = c.args.self.now in
-    let p = err_from_is_err_and c.from_residual.result c.from_residual.ensures.1 in
     refused_step (g.G.Group.ops C.group) C.scheme key_is (state_of C c.args.shares.now) c.args.working.now (opening c.args.helpers.now)
-    c.from_residual.result c.in_err-check_opening.field-0.0 (p.1 ∙ ap Err p.2) c.in_err-check_opening.ensures
+    c.from_residual.result c.in_err-check_opening.field-0.0 c.from_residual.ensures.1 c.in_err-check_opening.ensures
 
 pub returns-in_err-tuple_at : goal.returns-in_err-tuple_at
 returns-in_err-tuple_at g c =

@@ -1,5 +1,4 @@
-use Rattle.std.proofs.Common.{List, ◌-◌, Err, refl, ap, ◌∙◌, arith}
-use Rattle.std.proofs.lemmas.Result.{err_from_is_err_and}
+use Rattle.std.proofs.Common.{List, ◌-◌, refl, ap, ◌∙◌, arith}
 use Rattle.algebra.specs.Rows.{put_row}
 use Rattle.sharing.specs.Verdicts.{verdict}
 use Rattle.sharing.proofs.Choosing.{takeable}
@@ -14,10 +13,9 @@ use Rattle.custody.proofs.cabinet.Cabinet.repair.Goals as goal
 pub returns-in_err-check_repairing : goal.returns-in_err-check_repairing
 returns-in_err-check_repairing g c =
     let C = c.args.self.now in
-    let p = err_from_is_err_and c.from_residual.result c.from_residual.ensures.1 in
     record {
       step = refused_step (g.G.Group.ops C.group) C.scheme holder_is (state_of C c.args.shares.now) c.args.working.now (repairing c.args.holder c.args.helpers.now)
-          c.from_residual.result c.in_err-check_repairing.field-0.0 (p.1 ∙ ap Err p.2) c.in_err-check_repairing.ensures;
+          c.from_residual.result c.in_err-check_repairing.field-0.0 c.from_residual.ensures.1 c.in_err-check_repairing.ensures;
       same = (refl, refl, refl);
     }
 

@@ -1,5 +1,4 @@
-use Rattle.std.proofs.Common.{◌≤◌, length, [], Err, refl, ap, ◌∙◌, arith, rules}
-use Rattle.std.proofs.lemmas.Result.{err_from_is_err_and}
+use Rattle.std.proofs.Common.{◌≤◌, length, [], refl, arith, rules}
 use Rattle.history.specs.Calls.{revoking, holder_is}
 use Rattle.history.proofs.Refusals.{refused_step}
 use Rattle.history.proofs.Stepping.{revoking_fine}
@@ -9,10 +8,9 @@ use Rattle.custody.proofs.cabinet.Cabinet.revoke.Goals as goal
 pub returns-in_err-check_revoking : goal.returns-in_err-check_revoking
 returns-in_err-check_revoking g c =
     let C = c.args.self.now in
-    let p = err_from_is_err_and c.from_residual.result c.from_residual.ensures.1 in
     record {
       step = refused_step (g.G.Group.ops C.group) C.scheme holder_is (state_of C c.args.shares.now) [] (revoking c.args.holder)
-          c.from_residual.result c.in_err-check_revoking.field-0.0 (p.1 ∙ ap Err p.2) c.in_err-check_revoking.ensures;
+          c.from_residual.result c.in_err-check_revoking.field-0.0 c.from_residual.ensures.1 c.in_err-check_revoking.ensures;
       same = (refl, refl, refl);
     }
 
