@@ -1,5 +1,5 @@
 -- What a holder is dealt, from the last coefficient to the first.
-use Rattle.std.proofs.Common.{◌≡◌, ℕ, zero, suc, ◌+◌, ◌-◌, ◌*◌, ◌%◌, ◌<◌, T, List, [], ◌∷◌, ◌++◌, length, set, sym, refl, ap, ◌∙◌, ap₂, subst, inl, inr, not-suc-le-zero, suc-mul, zero-mul, arith}
+use Rattle.std.proofs.Common.{◌≡◌, ℕ, suc, ◌+◌, ◌-◌, ◌*◌, ◌%◌, ◌<◌, T, List, [], ◌∷◌, ◌++◌, length, sym, refl, ap, ◌∙◌, ap₂, subst, inl, inr, suc-mul, zero-mul, arith}
 use Rattle.std.proofs.Math.Nat.{mul-mod_left}
 use Rattle.std.proofs.lemmas.Bool.{cases_lt}
 use Rattle.std.proofs.lemmas.List.{append_assoc, append-nil, length-append, take_at, drop_at, nil_from_length}
@@ -28,10 +28,6 @@ module _ {C : Type 0} (G : GroupOps C) (w i : ℕ) where
     pub same : T (all_valid G cs) → (out ≡ value_of k done) × T (all_valid G out)
 
 module _ {C : Type 0} (G : GroupOps C) (L : GroupLaws G) where
-  pub embed_zero : (n : ℕ) (k : C) → 0 < n → set (tuple_zero G n) 0 k ≡ embedded G n k
-  embed_zero zero k h = absurd (not-suc-le-zero h)
-  embed_zero (suc n) k h = let e : n ≡ suc n - 1 = omega arith in ap (λ (m : ℕ). k ∷ tuple_zero G m) e
-
   -- out times the point i, and then `from` is added to it
   pub stepped : (i : ℕ) (from out product copied after : List C)
       → (T (all_valid G out) → product ≡ act (list_ops G (length out)) (geometric 1 i) out)

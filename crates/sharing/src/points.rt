@@ -47,6 +47,7 @@ pub(crate) fn mul_geometric<G: Group>(
     ensures { T (all_valid (G.ops g.now) m.now) → out.new ≡ act (list_ops (G.ops g.now) (length m.now)) (geometric d e) m.now }
 {
     fill_zero(g, out);
+    // The proof alone reads how many turns are done.
     for done in 0..e {
         mul_power(g, d, out, tmp);
         add_into(g, out, m);
@@ -54,6 +55,8 @@ pub(crate) fn mul_geometric<G: Group>(
 }
 
 // Multiplies `m` by x^a (1 + x^d + .. + x^(d(e-1))), by way of two tuples of `scratch`.
+//
+// One slice and no struct of tuples: a slice keeps its length over a call with no clause for it.
 pub(crate) fn mul_term<G: Group>(
     g: &G,
     a: usize,

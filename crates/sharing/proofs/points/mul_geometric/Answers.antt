@@ -1,10 +1,6 @@
-use Rattle.std.proofs.Common.{length, refl, ap, ◌∙◌}
-use Rattle.algebra.specs.Tuples.{tuple_zero}
+use Rattle.std.proofs.Common.{length, refl}
 use Rattle.sharing.proofs.Acting.{geometric_step}
 use Rattle.sharing.proofs.points.mul_geometric.Goals as goal
-
-pub loop-done-init : goal.loop-done-init
-loop-done-init g c p = c.fill_zero.ensures ∙ ap (tuple_zero (g.G.Group.ops c.args.g.now)) c.requires.out
 
 pub loop-done-preserved : goal.loop-done-preserved
 loop-done-preserved g c p =

@@ -2,15 +2,8 @@ use Rattle.std.proofs.Common.{◌-◌, length, refl, ap, ◌∙◌}
 use Rattle.algebra.specs.Scalars.{times, power, geometric, act}
 use Rattle.algebra.specs.Tuples.{list_ops}
 use Rattle.sharing.proofs.Acting.{negated}
-use Rattle.sharing.proofs.Indices.{inverse_one, inverse_other}
+use Rattle.sharing.proofs.Indices.{inverse_negated}
 use Rattle.sharing.proofs.points.mul_inverse.Goals as goal
-
-pub returns-then-j-k : goal.returns-then-j-k
-returns-then-j-k g c p =
-    c.mul_term.ensures p
-    ∙ ap (λ s. act (list_ops (g.G.Group.ops c.args.g.now) (length c.args.m.now)) s c.args.m.now)
-    (inverse_one c.args.k c.args.j c.min.result c.abs_diff-d.result c.min.ensures c.abs_diff-d.ensures
-    c.args.scheme.q c.inverse_number-e.result c.inverse_number-e.ensures c.if-j-k.true)
 
 pub returns : goal.returns
 returns g c p =
@@ -18,5 +11,5 @@ returns g c p =
     (times (power (c.args.scheme.q - c.min.result)) (geometric c.abs_diff-d.result c.inverse_number-e.result)) c.mul_term.new.m c.negate.new.to
     (c.mul_term.ensures p) c.negate.ensures
     ∙ ap (λ s. act (list_ops (g.G.Group.ops c.args.g.now) (length c.args.m.now)) s c.args.m.now)
-    (inverse_other c.args.k c.args.j c.min.result c.abs_diff-d.result c.min.ensures c.abs_diff-d.ensures
+    (inverse_negated c.args.k c.args.j c.min.result c.abs_diff-d.result c.min.ensures c.abs_diff-d.ensures
     c.args.scheme.q c.inverse_number-e.result c.inverse_number-e.ensures c.if-j-k.false)

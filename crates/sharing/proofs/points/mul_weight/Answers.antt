@@ -1,7 +1,7 @@
-use Rattle.std.proofs.Common.{◌-◌, ◌≤◌, [], ◌∷◌, refl, rules, arith}
+use Rattle.std.proofs.Common.{◌-◌, [], ◌∷◌, refl, rules}
 use Rattle.std.specs.Slice.Iter.{iter_rest}
 use Rattle.std.specs.Iterator.Adapters.{rev_source}
-use Rattle.sharing.proofs.Backward.{walked, kept}
+use Rattle.sharing.proofs.Backward.{walked}
 use Rattle.sharing.proofs.Acting.{chained}
 use Rattle.sharing.proofs.Weights.{factor_at}
 use Rattle.algebra.specs.Dealing.{weight_at}
@@ -9,12 +9,6 @@ use Rattle.sharing.proofs.points.mul_weight.Goals as goal
 
 pub loop-k-init : goal.loop-k-init
 loop-k-init g c = ([], search rules, λ v. refl)
-
-pub mul_factor-requires-clause-k : goal.mul_factor-requires-clause-k
-mul_factor-requires-clause-k g c =
-    let holder = kept c.args.helpers.list.now (iter_rest (rev_source c.loop-k.k-iterator)) (iter_rest (rev_source c.next.new.self)) c.loop-k.invariant.0 c.in-Some.k.now
-    c.loop-k.invariant.1 (search rules) (λ k. (1 ≤ k) × (k ≤ c.args.helpers.scheme.n)) 0 c.args.helpers.known in
-    omega (arith, holder.1, c.args.helpers.scheme.above)
 
 pub loop-k-preserved : goal.loop-k-preserved
 loop-k-preserved g c =

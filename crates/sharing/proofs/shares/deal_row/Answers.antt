@@ -1,10 +1,6 @@
-use Rattle.std.proofs.Common.{◌+◌, ◌-◌, arith, rules}
-use Rattle.algebra.proofs.RowLists.{row_end}
+use Rattle.std.proofs.Common.{◌+◌, ◌-◌, arith}
 use Rattle.sharing.proofs.ShareRows.{dealt_row}
 use Rattle.sharing.proofs.shares.deal_row.Goals as goal
-
-pub change_row-requires : goal.change_row-requires
-change_row-requires g c = let e = row_end c.args.h c.args.scheme.n c.width-width.result c.requires.known in search rules
 
 pub returns : goal.returns
 returns g c =
