@@ -16,6 +16,7 @@ use std::alloc::AllocError;
 // Pairs of elements of two groups, part by part.
 #[derive(Copy)]
 pub struct Pair<A, B> {
+    // The number by which written forms name the pair.
     id: u8,
     modulus: u32,
     first: A,
