@@ -40,7 +40,6 @@ module _ {C : Type 0} (G : GroupOps C) (L : GroupLaws G) (s : Scheme) (d : Chang
       let w : ℕ = s.q - 1 in
       let h : ℕ = holder - 1 in
       let wide : 0 < w = omega (arith, s.above, s.allowed) in
-      let few : h < 30 = omega (arith, s.allowed) in
       let e : holder ≡ h + 1 = omega arith in
       let next : h + 1 ≡ holder + 1 - 1 = omega arith in
       let c : (s.t - 1) * w ≤ length cs = omega arith in
@@ -48,8 +47,8 @@ module _ {C : Type 0} (G : GroupOps C) (L : GroupLaws G) (s : Scheme) (d : Chang
       subst (λ (i : ℕ). Out xs₀ i after) next
       (share_step G L d (λ i. dealt G w i k (s.t - 1) cs) w s.n hs
       (λ i. ok_length G w (dealt G w i k (s.t - 1) cs) (ok i)) (λ i. ok_valid G w (dealt G w i k (s.t - 1) cs) (ok i))
-      xs₀ xs after h (is_present hs (h + 1)) (omega arith) full (present_at hs h few)
-      (λ p. deal p q r ∙ ap (λ (i : ℕ). put_row w h (credited G d (is_present hs i) (dealt G w i k (s.t - 1) cs) (row_at w h xs)) xs) e) inv)
+      xs₀ xs after h (is_present hs holder) (omega arith) full (present_at hs holder low (omega (arith, s.allowed)))
+      (λ p. deal p q r ∙ ap (λ (i : ℕ). put_row w h (credited G d (is_present hs holder) (dealt G w i k (s.t - 1) cs) (row_at w h xs)) xs) e) inv)
 
   pub deal_end : (xs₀ xs : List C) (h : ℕ) → s.n ≤ h → length xs ≡ s.n * (s.q - 1) → Out xs₀ h xs → xs ≡ keyed_out G s d hs xs₀ k cs
   deal_end = share_end G L d (λ i. dealt G (s.q - 1) i k (s.t - 1) cs) (s.q - 1) s.n hs

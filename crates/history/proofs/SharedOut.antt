@@ -1,5 +1,5 @@
 -- The share memory, row by row, as the shares that are present are changed by what is dealt.
-use Rattle.std.proofs.Common.{◌≡◌, ℕ, zero, suc, ◌+◌, ◌-◌, ◌*◌, ◌<◌, ◌≤◌, Bool, true, false, ◌&&◌, T, leb, List, [], ◌∷◌, ◌++◌, length, get_or, take, drop, set, sym, refl, ap, ◌∙◌, subst, le_of_suc-le-suc, not-suc-le-zero, zero-add, arith}
+use Rattle.std.proofs.Common.{◌≡◌, ℕ, zero, suc, ◌+◌, ◌-◌, ◌*◌, ◌<◌, ◌≤◌, Bool, true, false, ◌&&◌, T, List, [], ◌∷◌, ◌++◌, length, get_or, take, drop, set, sym, refl, ap, ◌∙◌, subst, ap₂, le_of_suc-le-suc, not-suc-le-zero, zero-add, arith}
 use Rattle.std.proofs.lemmas.List.{length-take-le, length-drop, get_or_default}
 use Rattle.std.proofs.lemmas.Bool.{lt-ltb, le-leb}
 use Rattle.algebra.specs.Group.{GroupOps, GroupLaws}
@@ -15,12 +15,9 @@ use Rattle.history.specs.declared.ledger.Holder.{Holder}
 use Rattle.history.specs.Ledgers.{holder, is_present}
 use Rattle.history.specs.Steps.{credited, shared_out}
 
-pub present_at : (hs : List Holder) (h : ℕ) → h < 30 → is_present hs (h + 1) ≡ (get_or hs h (holder false 0)).present
-present_at hs h l =
-    let e : h + 1 - 1 ≡ h = omega arith in
-    ap (λ (b : Bool). b && (leb (h + 1) 30 && (get_or hs (h + 1 - 1) (holder false 0)).present)) (lt-ltb 0 (h + 1) (omega arith))
-    ∙ ap (λ (b : Bool). b && (get_or hs (h + 1 - 1) (holder false 0)).present) (le-leb (h + 1) 30 (omega arith))
-    ∙ ap (λ (k : ℕ). (get_or hs k (holder false 0)).present) e
+-- of the numbers of holders
+pub present_at : (hs : List Holder) (h : ℕ) → 1 ≤ h → h ≤ 30 → is_present hs h ≡ (get_or hs (h - 1) (holder false 0)).present
+present_at hs h low high = ap₂ (λ (a b : Bool). a && (b && (get_or hs (h - 1) (holder false 0)).present)) (lt-ltb 0 h low) (le-leb h 30 high)
 
 module _ {C : Type 0} (G : GroupOps C) where
   length_changed : (d : Change) (ys r : List C) → length ys ≡ length r → length (changed G d r ys) ≡ length r
@@ -31,13 +28,19 @@ module _ {C : Type 0} (G : GroupOps C) where
   length_credited d true ys r e = length_changed d ys r e
   length_credited d false ys r e = refl
 
+  -- a row of valid elements put into valid memory
+  pub put_valid : (w h : ℕ) (ys xs : List C) → T (all_valid G ys) → T (all_valid G xs) → T (all_valid G (put_row w h ys xs))
+  put_valid w h ys xs p q =
+      append_valid G (take (h * w) xs) (ys ++ drop (h * w + w) xs) (take_valid G (h * w) xs q)
+      (append_valid G ys (drop (h * w + w) xs) p (drop_valid G (h * w + w) xs q))
+
   module _ (d : Change) (f : ℕ → List C) where
-    length_shared : (i : ℕ) (hs : List Holder) (rs : List (List C)) → length (shared_out G d f i hs rs) ≡ length rs
+    pub length_shared : (i : ℕ) (hs : List Holder) (rs : List (List C)) → length (shared_out G d f i hs rs) ≡ length rs
     length_shared i hs [] = refl
     length_shared i [] (r ∷ rs) = refl
     length_shared i (h ∷ hs) (r ∷ rs) = ap suc (length_shared (i + 1) hs rs)
 
-    shared_at : (i k : ℕ) (hs : List Holder) (rs : List (List C)) (x : List C) → k < length rs
+    pub shared_at : (i k : ℕ) (hs : List Holder) (rs : List (List C)) (x : List C) → k < length rs
         → get_or (shared_out G d f i hs rs) k x ≡ credited G d (get_or hs k (holder false 0)).present (f (k + i)) (get_or rs k x)
     shared_at i k hs [] x l = absurd (not-suc-le-zero l)
     shared_at i k [] (r ∷ rs) x l = refl
@@ -55,11 +58,6 @@ module _ {C : Type 0} (G : GroupOps C) (L : GroupLaws G) (d : Change) where
   credited_valid : (b : Bool) (ys r : List C) → T (all_valid G ys) → T (all_valid G r) → T (all_valid G (credited G d b ys r))
   credited_valid true ys r p q = changed_valid d ys r p q
   credited_valid false ys r p q = q
-
-  put_valid : (w h : ℕ) (ys xs : List C) → T (all_valid G ys) → T (all_valid G xs) → T (all_valid G (put_row w h ys xs))
-  put_valid w h ys xs p q =
-      append_valid G (take (h * w) xs) (ys ++ drop (h * w + w) xs) (take_valid G (h * w) xs q)
-      (append_valid G ys (drop (h * w + w) xs) p (drop_valid G (h * w + w) xs q))
 
   -- a holder that is not present keeps its row
   pub row_kept : (w h : ℕ) (xs ys : List C) (b : Bool) → b ≡ false → xs ≡ put_row w h (credited G d b ys (row_at w h xs)) xs
@@ -101,7 +99,7 @@ module _ {C : Type 0} (G : GroupOps C) (L : GroupLaws G) (d : Change) where
           ap (take (h + 1)) written ∙ take_step rs R h v hx hr inv.0 new,
           ap (drop (h + 1)) written ∙ drop_step rs rs₀ h v inv.1,
           subst (λ (z : List C). T (all_valid G z)) (sym e)
-              (put_valid w h v xs (credited_valid b (f (h + 1)) x (pf (h + 1)) (part_valid G w (h * w) xs inv.2)) inv.2),
+              (put_valid G w h v xs (credited_valid b (f (h + 1)) x (pf (h + 1)) (part_valid G w (h * w) xs inv.2)) inv.2),
         )
 
     pub share_end : (xs₀ xs : List C) (h : ℕ) → n ≤ h → length xs ≡ n * w → Shared xs₀ h xs → xs ≡ flat (shared_out G d f 1 hs (rows w n xs₀))

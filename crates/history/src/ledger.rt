@@ -13,6 +13,7 @@ pub struct Holder {
 }
 
 // The public part of a cabinet's state: how many deals it has accepted, and its holders from number 1 on.
+// The library has no heap, so there are places for the most holders.
 #[derive(Clone, Copy, PartialEq, Eq, Debug)]
 pub struct Ledger {
     pub epoch: u32,

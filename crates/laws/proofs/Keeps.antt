@@ -1,10 +1,10 @@
 -- The polynomial that a history has dealt: each share is its value, and at 0 it is the total.
-use Rattle.std.proofs.Common.{◌≡◌, ℕ, zero, suc, ◌+◌, ◌-◌, ◌*◌, ◌<◌, ◌≤◌, Bool, true, false, cond, not, ◌&&◌, T, ◌⊎◌, List, [], ◌∷◌, length, get_or, set, Some, None, Option, sym, refl, ap, ◌∙◌, subst, ap₂, inl, inr, arith}
+use Rattle.std.proofs.Common.{◌≡◌, ℕ, zero, suc, ◌+◌, ◌-◌, ◌*◌, ◌<◌, ◌≤◌, Bool, true, false, cond, not, T, ◌⊎◌, List, [], ◌∷◌, length, get_or, set, Some, None, Option, sym, refl, ap, ◌∙◌, subst, ap₂, inl, inr, arith}
 use lib.ListN.{length-replicate}
 use Rattle.std.specs.List.{AllByRecursion}
 use Rattle.std.proofs.ByRecursion.{All-weaker}
 use Rattle.std.proofs.lemmas.List.{length-map, length-set, get_or-set_same, get_or-set_other}
-use Rattle.std.proofs.lemmas.Bool.{cond-true, le-leb, lt-ltb, cases_eq, not_from_true}
+use Rattle.std.proofs.lemmas.Bool.{cond-true, le-leb, cases_eq, not_from_true}
 use Rattle.algebra.specs.Group.{GroupOps, GroupLaws}
 use Rattle.algebra.specs.Module.{ModuleOps}
 use Rattle.algebra.specs.Tuples.{tuple_zero, tuple_plus, tuple_minus, nonzero_at, ok, list_ops}
@@ -34,7 +34,8 @@ use Rattle.history.specs.Calls.{State, Deal, depositing, withdrawing, refreshing
 use Rattle.history.specs.Rules.{fault}
 use Rattle.history.specs.Steps.{direction, key_of, credited, shared_out, told_by, told, made, accepted, decided}
 use Rattle.laws.specs.Histories.{Request, outcome, public_fault, counted, added, credit}
-use Rattle.laws.proofs.Memory.{row_put_same, row_put_other, length_put, row_replicate, row_flat, flat_long, flat_valid, put_valid}
+use Rattle.history.proofs.SharedOut.{present_at, put_valid, length_shared, shared_at}
+use Rattle.laws.proofs.Memory.{row_put_same, row_put_other, length_put, row_replicate, row_flat, flat_long, flat_valid}
 use Rattle.laws.proofs.Lifting.{lift, lift_ok, total_lift, poly_of, poly_dealt, signed, changed_value}
 use Rattle.laws.proofs.Verdicts.{nowhere_from, true_from, Listed, Proper, proper, deal_none, revoke_none, repair_none, open_none, Sound, sound_fault}
 use Rattle.laws.proofs.Along.{refused_counts}
@@ -44,26 +45,8 @@ abbrev pub there : List Holder → ℕ → Bool
 there hs i = (get_or hs i (holder false 0)).present
 
 -- of the numbers of holders
-pub present_at : (s : Scheme) (hs : List Holder) (h : ℕ) → (1 ≤ h) × (h ≤ s.n) → is_present hs h ≡ there hs (h - 1)
-present_at s hs h b =
-    let low : 0 < h = omega (arith, b.0) in
-    let high : h ≤ 30 = omega (arith, b.1, s.allowed) in
-    ap₂ (λ a c. a && (c && there hs (h - 1))) (lt-ltb 0 h low) (le-leb h 30 high)
-
-module _ {C : Type 0} (G : GroupOps C) where
-  length_shared : (d : Change) (f : ℕ → List C) (i : ℕ) (hs : List Holder) (rs : List (List C)) → length (shared_out G d f i hs rs) ≡ length rs
-  length_shared d f i hs [] = refl
-  length_shared d f i [] (r ∷ rs) = refl
-  length_shared d f i (h ∷ hs) (r ∷ rs) = ap suc (length_shared d f (i + 1) hs rs)
-
-  get_or_shared : (d : Change) (f : ℕ → List C) (i : ℕ) (hs : List Holder) (rs : List (List C)) (k : ℕ) → k < length rs
-      → get_or (shared_out G d f i hs rs) k [] ≡ credited G d (there hs k) (f (i + k)) (get_or rs k [])
-  get_or_shared d f i hs [] k l = absurd (omega arith)
-  get_or_shared d f i [] (r ∷ rs) k l = refl
-  get_or_shared d f i (h ∷ hs) (r ∷ rs) zero l = let e : i ≡ i + 0 = omega arith in ap (λ j. credited G d h.present (f j) r) e
-  get_or_shared d f i (h ∷ hs) (r ∷ rs) (suc k) l =
-      let e : i + 1 + k ≡ i + suc k = omega arith in
-      get_or_shared d f (i + 1) hs rs k (omega arith) ∙ ap (λ j. credited G d (there hs k) (f j) (get_or rs k [])) e
+pub there_at : (s : Scheme) (hs : List Holder) (h : ℕ) → (1 ≤ h) × (h ≤ s.n) → is_present hs h ≡ there hs (h - 1)
+there_at s hs h b = present_at hs h b.0 (omega (arith, b.1, s.allowed))
 
 module _ {C : Type 0} (G : GroupOps C) (L : GroupLaws G) (w : ℕ) where
   credited_ok : (d : Change) (b : Bool) (ys r : List C) → T (ok G w ys) → T (ok G w r) → T (ok G w (credited G d b ys r))
@@ -149,7 +132,7 @@ module _ {C : Type 0} (G : GroupOps C) (L : GroupLaws G) (s : Scheme) where
   share_value st P j h b e =
       let l : h - 1 < s.n = omega (arith, b.0, b.1) in
       let k : suc (h - 1) ≡ h = omega (arith, b.0) in
-      j.each (h - 1) l ∙ cond-true _ _ _ (sym (present_at s st.ledger.holders h b) ∙ e) ∙ ap (λ i. (value O P (point i)).0) k
+      j.each (h - 1) l ∙ cond-true _ _ _ (sym (there_at s st.ledger.holders h b) ∙ e) ∙ ap (λ i. (value O P (point i)).0) k
 
   -- what t present holders' shares give at a point
   pub helped : (st : State C) (P : Poly) → Shared st P → (hs : List ℕ) → Listed s st.ledger.holders hs
@@ -208,11 +191,11 @@ module _ {C : Type 0} (G : GroupOps C) (L : GroupLaws G) (s : Scheme) where
     all_rows st = length_shared G (direction d) share_for 1 st.ledger.holders _ ∙ length_rows (s.q - 1) s.n st.shares
 
     dealt_row : (st : State C) → Sound G L s st → (i : ℕ) → i < s.n
-        → row_at (s.q - 1) i (flat (dealt_rows st)) ≡ credited G (direction d) (there st.ledger.holders i) (share_for (1 + i)) (row_at (s.q - 1) i st.shares)
+        → row_at (s.q - 1) i (flat (dealt_rows st)) ≡ credited G (direction d) (there st.ledger.holders i) (share_for (i + 1)) (row_at (s.q - 1) i st.shares)
     dealt_row st o i l =
         row_flat G (s.q - 1) (dealt_rows st) (rows_are_ok st o) i (omega (arith, all_rows st))
-        ∙ get_or_shared G (direction d) share_for 1 st.ledger.holders (rows (s.q - 1) s.n st.shares) i (omega (arith, length_rows (s.q - 1) s.n st.shares))
-        ∙ ap (credited G (direction d) (there st.ledger.holders i) (share_for (1 + i))) (get_or_rows (s.q - 1) s.n i st.shares [] l)
+        ∙ shared_at G (direction d) share_for 1 i st.ledger.holders (rows (s.q - 1) s.n st.shares) [] (omega (arith, length_rows (s.q - 1) s.n st.shares))
+        ∙ ap (credited G (direction d) (there st.ledger.holders i) (share_for (i + 1))) (get_or_rows (s.q - 1) s.n i st.shares [] l)
 
     pub deals_on : (st : State C) (P : Poly) → Shared st P → Shared (accepted G s st [] (dealing d cs)).state (grown d cs P)
     deals_on st P j = record {
@@ -226,8 +209,8 @@ module _ {C : Type 0} (G : GroupOps C) (L : GroupLaws G) (s : Scheme) where
     }
       where
         go : (i : ℕ) (b : Bool) (r : List C) → r ≡ cond b (value O P (point (suc i))).0 (tuple_zero G (s.q - 1))
-            → credited G (direction d) b (share_for (1 + i)) r ≡ cond b (value O (grown d cs P) (point (suc i))).0 (tuple_zero G (s.q - 1))
-        go i true r e = let k : 1 + i ≡ suc i = omega arith in ap (λ n. changed G (direction d) r (share_for n)) k ∙ credit_value (suc i) P r e
+            → credited G (direction d) b (share_for (i + 1)) r ≡ cond b (value O (grown d cs P) (point (suc i))).0 (tuple_zero G (s.q - 1))
+        go i true r e = let k : i + 1 ≡ suc i = omega arith in ap (λ n. changed G (direction d) r (share_for n)) k ∙ credit_value (suc i) P r e
         go i false r e = e
 
   -- a holder's share put in place: of a revoked one zeros, of a repaired one the value

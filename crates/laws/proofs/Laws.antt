@@ -21,7 +21,7 @@ use Rattle.laws.specs.Histories.{Request, Entry, outcome, left_by, history, shar
 use Rattle.laws.specs.Promises.{InScheme, Opens, OpensToTotal}
 use Rattle.laws.proofs.Verdicts.{lent_row, sound_fault}
 use Rattle.laws.proofs.Along.{all_trace, gathered_both, along, at_last}
-use Rattle.laws.proofs.Keeps.{present_at, O, Poly, grown, Shared, Worth, credit_value, worth, keep, start_shared, start_worth, foretold_by, foretells}
+use Rattle.laws.proofs.Keeps.{there_at, O, Poly, grown, Shared, Worth, credit_value, worth, keep, start_shared, start_worth, foretold_by, foretells}
 
 module _ {C : Type 0} (G : GroupOps C) (L : GroupLaws G) (s : Scheme) where
   module _ (xs : List (Request C)) where
@@ -47,7 +47,7 @@ module _ {C : Type 0} (G : GroupOps C) (L : GroupLaws G) (s : Scheme) where
         let l : h - 1 < s.n = omega (arith, b.0, b.1) in
         let k : suc (h - 1) ≡ h = omega (arith, b.0) in
         j.each (h - 1) l
-        ∙ ap₂ (λ c i. cond c (value (O G L s) (poly st.ledger.epoch) (point i)).0 (tuple_zero G (s.q - 1))) (sym (present_at s st.ledger.holders h b)) k
+        ∙ ap₂ (λ c i. cond c (value (O G L s) (poly st.ledger.epoch) (point i)).0 (tuple_zero G (s.q - 1))) (sym (there_at s st.ledger.holders h b)) k
         ∙ ap (λ m. cond (is_present st.ledger.holders h) m (tuple_zero G (s.q - 1))) (sym (poly_dealt_to h st.ledger.epoch))
 
     pub all_dealt : AllByRecursion (λ x. Dealt x.before) (history G s xs)

@@ -1,5 +1,5 @@
 -- Rows of the share memory: of a list made of rows, and after a write to one.
-use Rattle.std.proofs.Common.{◌≡◌, ℕ, ◌+◌, ◌-◌, ◌*◌, ◌<◌, ◌≤◌, T, List, [], ◌∷◌, ◌++◌, length, get_or, take, drop, set, replicate, sym, refl, ap, ◌∙◌, ap₂, suc-mul, zero-mul, arith, length-append}
+use Rattle.std.proofs.Common.{◌≡◌, ℕ, ◌+◌, ◌-◌, ◌*◌, ◌<◌, ◌≤◌, T, List, [], ◌∷◌, length, get_or, take, drop, set, replicate, sym, refl, ap, ◌∙◌, ap₂, suc-mul, zero-mul, arith, length-append}
 use Rattle.std.specs.List.{AllByRecursion}
 use Rattle.std.proofs.ByRecursion.{All-weaker}
 use Rattle.std.proofs.lemmas.List.{take_at, drop_at, length-take-le, length-drop, get_or-set_same, get_or-set_other, take-replicate, drop-replicate}
@@ -8,7 +8,7 @@ use Rattle.algebra.specs.Tuples.{all_valid, ok}
 use Rattle.algebra.specs.Valid.{append_valid}
 use Rattle.algebra.specs.Space.{ok_length, ok_valid}
 use Rattle.algebra.specs.Rows.{rows, row_at, put_row, flat}
-use Rattle.algebra.proofs.RowLists.{get_or_rows, rows_put, length_rows, row_end, take_valid, drop_valid}
+use Rattle.algebra.proofs.RowLists.{get_or_rows, rows_put, length_rows, row_end}
 
 module _ {X : Type 0} (w : ℕ) where
   pub rows_flat : (rs : List (List X)) → AllByRecursion (λ r. length r ≡ w) rs → rows w (length rs) (flat rs) ≡ rs
@@ -57,7 +57,3 @@ module _ {C : Type 0} (G : GroupOps C) (w : ℕ) where
   pub flat_valid : (rs : List (List C)) → AllByRecursion (λ r. T (ok G w r)) rs → T (all_valid G (flat rs))
   flat_valid [] h = tt
   flat_valid (r ∷ rs) h = append_valid G r (flat rs) (ok_valid G w r h.0) (flat_valid rs h.1)
-
-  pub put_valid : (j : ℕ) (ys xs : List C) → T (all_valid G ys) → T (all_valid G xs) → T (all_valid G (put_row w j ys xs))
-  put_valid j ys xs h k =
-      append_valid G (take (j * w) xs) (ys ++ drop (j * w + w) xs) (take_valid G (j * w) xs k) (append_valid G ys (drop (j * w + w) xs) h (drop_valid G (j * w + w) xs k))

@@ -15,7 +15,7 @@ use Rattle.history.specs.Steps.{made, accepted, decided}
 use Rattle.laws.specs.Histories.{Request, outcome, run, trace, left_by, history, public_fault, changes_presence, steady, counted, gathered, credit, dealt_to}
 use Rattle.laws.specs.Promises.{InScheme, SharesAsDealt}
 use Rattle.laws.proofs.Verdicts.{lent_row, sound_fault}
-use Rattle.laws.proofs.Keeps.{present_at, Poly, Shared, keep, start_shared}
+use Rattle.laws.proofs.Keeps.{there_at, Poly, Shared, keep, start_shared}
 use Rattle.laws.proofs.Laws.{last_dealt}
 
 abbrev is_dealing : {C : Type 0} → Call C → Bool
@@ -134,7 +134,7 @@ module _ {C : Type 0} (G : GroupOps C) (L : GroupLaws G) (s : Scheme) where
   fresh_present : (h : ℕ) → InScheme s h → is_present fresh.holders h ≡ true
   fresh_present h b =
       let l : h - 1 < 30 = omega (arith, b.0, b.1, s.allowed) in
-      present_at s fresh.holders h b ∙ ap (λ (x : Holder). x.present) (get_or-replicate 30 (h - 1) (holder true 0) (holder false 0) l)
+      there_at s fresh.holders h b ∙ ap (λ (x : Holder). x.present) (get_or-replicate 30 (h - 1) (holder true 0) (holder false 0) l)
 
   pub shares_as_dealt : SharesAsDealt G s
   shares_as_dealt xs h b =
