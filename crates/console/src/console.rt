@@ -18,10 +18,9 @@ use std::alloc::{AllocError, Global};
 fn heading(line: &[u8]) -> char
     ensures { result ≡ heading_of (first_letter line.now) }
 {
-    match line.first() {
-        Some(byte) => Letter::try_from(*byte).map_or('?', char::from),
-        None => '?',
-    }
+    let byte = line.first();
+    byte.and_then(|byte| Letter::try_from(*byte).ok())
+        .map_or('?', char::from)
 }
 
 // A cabinet where there is none yet.
@@ -93,16 +92,11 @@ impl Console {
         ensures kept { OnErr result (self.new.held ≡ self.old.held) }
     {
         let letter = heading(line);
-        match self.follow(heap, line) {
-            Ok(number) => Ok(AnswerLine {
-                letter,
-                answer: Ok(number),
-            }),
-            Err(Trouble::Refused(fault)) => Ok(AnswerLine {
-                letter,
-                answer: Err(Refusal::from(fault)),
-            }),
-            Err(Trouble::Memory(error)) => Err(error),
-        }
+        let answer = match self.follow(heap, line) {
+            Ok(number) => Ok(number),
+            Err(Trouble::Refused(fault)) => Err(Refusal::from(fault)),
+            Err(Trouble::Memory(error)) => return Err(error),
+        };
+        Ok(AnswerLine { letter, answer })
     }
 }

@@ -9,7 +9,7 @@ use sharing::fault::CabinetFault;
 use std::alloc::AllocError;
 
 // Why the console refuses a line. The faults of the layers below are carried whole.
-#[derive(Clone, Copy)]
+#[derive(Clone, Copy, PartialEq, Eq, Debug)]
 pub enum ConsoleFault {
     Line(LineFault),
     // There is no cabinet yet.
@@ -47,6 +47,7 @@ impl ConsoleFault {
     }
 }
 
+// Each `From` here is written out: clauses name the variant, and a derived one has no contract.
 impl From<LineFault> for ConsoleFault {
     ghost from_gives = { λ e f. f ≡ from_line e };
 
@@ -83,14 +84,14 @@ impl From<ConsoleFault> for Refusal {
     }
 }
 
-// Why a line is not done: it is refused, or memory runs out.
+// Why a line is not done: it is refused, or memory runs out. As `ParseError` of the lines is, but with a fault of its own: of a type
+// over both faults the `From`s would overlap.
 #[derive(Clone, Copy)]
 pub(crate) enum Trouble {
     Refused(ConsoleFault),
     Memory(AllocError),
 }
 
-// Each `From` is written out: clauses name the variant, and a derived one has no contract.
 impl From<AllocError> for Trouble {
     ghost from_gives = { λ e t. t ≡ Memory e };
 

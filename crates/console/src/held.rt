@@ -48,7 +48,7 @@ impl Held {
     pub(crate) fn obey(&mut self, call: Call) -> Result<u32, CabinetFault>
         ensures { Answers (holding self.old) (called call.entry) result (holding self.new) }
     {
-        // The groups are two and stay so; a boxed `dyn` would need the heap, and would be handed out.
+        // Two groups and no `dyn`, since a contract says which of them the cabinet is over.
         match self {
             Held::Sums(seat) => seat.obey(call),
             Held::Units(seat) => seat.obey(call),

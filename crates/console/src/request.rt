@@ -13,7 +13,7 @@ pub enum Kind {
 }
 
 impl Kind {
-    // The group that K names: 3 is that of units, and the other that of sums.
+    // The group that K names by a number, as the lines' format has it: 3 is units, and the other sums.
     pub(crate) fn named(group: u32) -> Self
         ensures { result ≡ kind_of group }
     {

@@ -1,6 +1,7 @@
-ghost use Rattle.std.specs.Prelude.{◌≡◌, length};
+ghost use Rattle.std.specs.Prelude.{◌≡◌, ◌-◌, ◌*◌, length};
 ghost use Rattle.algebra.specs.Rows.{first_place};
-ghost use Rattle.sharing.specs.Verdicts.{first, verdict};
+ghost use Rattle.sharing.specs.declared.fault.CabinetFault.TheVariants.{MemoryLength};
+ghost use Rattle.sharing.specs.Verdicts.{length_row, first, verdict};
 ghost use Rattle.history.specs.Rules.{valid_row, memory_rows, change_rows, list_rows, missing_at};
 ghost use Rattle.custody.specs.Dealings.{keyed_rows};
 
@@ -22,6 +23,14 @@ fn first_missing(ledger: &Ledger, helpers: &[u32]) -> Option<usize>
 }
 
 impl<G: Group> Cabinet<G> {
+    // Refuses share memory of a wrong length.
+    pub(crate) fn check_length(&self, shares: &[G::Element]) -> Result<(), CabinetFault>
+        ensures { result ≡ verdict (length_row MemoryLength (self.now.scheme.n * (self.now.scheme.q - 1)) (length shares.now)) }
+    {
+        let full = self.scheme.share_length();
+        check_count(CabinetFault::MemoryLength(full), full, shares.len())
+    }
+
     // Refuses an invalid element in the share memory.
     pub(crate) fn check_valid(&self, shares: &[G::Element]) -> Result<(), CabinetFault>
         ensures { result ≡ verdict (valid_row (G.ops self.now.group) self.now.scheme shares.now) }
@@ -41,8 +50,7 @@ impl<G: Group> Cabinet<G> {
     ) -> Result<(), CabinetFault>
         ensures { result ≡ verdict (first (memory_rows (G.ops self.now.group) self.now.scheme shares.now working)) }
     {
-        let full = self.scheme.share_length();
-        check_count(CabinetFault::MemoryLength(full), full, shares.len())?;
+        self.check_length(shares)?;
         let room = self.scheme.working_length();
         check_count(CabinetFault::MemoryLength(room), room, working)?;
         self.check_valid(shares)

@@ -11,7 +11,6 @@ use groups::group::Group;
 use history::ledger::Holder;
 use sharing::fault::CabinetFault;
 use sharing::helpers::check_holder;
-use sharing::lengths::check_count;
 use sharing::shares::tuple_at;
 use sharing::tuples::fill_zero;
 use std::ops::Range;
@@ -21,8 +20,7 @@ impl<G: Group> Cabinet<G> {
     fn check_revoking(&self, holder: u32, shares: &[G::Element]) -> Result<(), CabinetFault>
         ensures { result ≡ verdict (fault (G.ops self.now.group) self.now.scheme (state_of self.now shares.now) 0 (revoking holder)) }
     {
-        let full = self.scheme.share_length();
-        check_count(CabinetFault::MemoryLength(full), full, shares.len())?;
+        self.check_length(shares)?;
         self.check_valid(shares)?;
         self.check_change(true, holder)
     }

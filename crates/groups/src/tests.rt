@@ -16,8 +16,8 @@ fn sums(rt: HostRuntime) -> Result<(), Fail> {
     assert_eq!(rt; g.negative(3), 7);
     assert_eq!(rt; g.negative(g.zero()), 0);
     assert!(rt; !g.is_valid(10));
-    assert_eq!(rt; Sums::new(1).is_err(), true);
-    assert_eq!(rt; Sums::new(2147483648).is_err(), true);
+    assert!(rt; Sums::new(1).is_err());
+    assert!(rt; Sums::new(2147483648).is_err());
     Ok(())
 }
 
@@ -31,7 +31,7 @@ fn units_of_fifteen(rt: HostRuntime) -> Result<(), Fail> {
     assert!(rt; !g.is_valid(0));
     assert!(rt; !g.is_valid(5));
     assert!(rt; !g.is_valid(15));
-    assert_eq!(rt; Units::new(2).is_err(), true);
+    assert!(rt; Units::new(2).is_err());
     Ok(())
 }
 
@@ -91,7 +91,7 @@ fn pairs(rt: HostRuntime) -> Result<(), Fail> {
     assert!(rt; g.same(g.negative((3, 14)), (7, 14)));
     assert!(rt; !g.is_valid((3, 5)));
     assert!(rt; !g.same((1, 2), (1, 4)));
-    assert_eq!(rt; Pair::new(0, 7, Blocks, Blocks).is_err(), true);
+    assert!(rt; Pair::new(0, 7, Blocks, Blocks).is_err());
     Ok(())
 }
 
@@ -102,14 +102,10 @@ fn numbers_are_written(rt: HostRuntime) -> Result<(), Fail> {
     g.write(66051, &mut out)?;
     assert_eq!(rt; out, [0, 1, 2, 3]);
     assert_eq!(rt; g.read(&out)?, 66051);
-    assert_eq!(rt;
-        g.read(&[0, 1, 17, 112]).is_err(),
-        true,
-        "the modulus itself"
-    );
-    assert_eq!(rt; g.read(&[0, 1, 2]).is_err(), true);
-    assert_eq!(rt; g.write(1, &mut [0; 5]).is_err(), true);
-    assert_eq!(rt; Units::new(15)?.read(&[0, 0, 0, 5]).is_err(), true);
+    assert!(rt; g.read(&[0, 1, 17, 112]).is_err(), "the modulus itself");
+    assert!(rt; g.read(&[0, 1, 2]).is_err());
+    assert!(rt; g.write(1, &mut [0; 5]).is_err());
+    assert!(rt; Units::new(15)?.read(&[0, 0, 0, 5]).is_err());
     Ok(())
 }
 
@@ -122,7 +118,7 @@ fn pairs_are_written(rt: HostRuntime) -> Result<(), Fail> {
     assert_eq!(rt; out[15], 255);
     assert_eq!(rt; out[18], 2);
     assert!(rt; g.same(g.read(&out)?, (KEY, 66051)));
-    assert_eq!(rt; g.read(&out[0..19]).is_err(), true);
+    assert!(rt; g.read(&out[0..19]).is_err());
     let long = long_key();
     assert_eq!(rt; (long.id(), long.modulus(), long.width()), (4, 0, 32));
     Ok(())

@@ -93,7 +93,7 @@ impl Group for Units {
     }
 }
 
-// As for `Sums`: one impl for both, over a trait with laws, is longer than these two.
+// `Sums` has nearly the same: one impl for both, over a trait with laws, is longer than the two.
 impl EncodedGroup for Units {
     ghost form = { λ g. number_form 3 g.modulus };
 

@@ -37,6 +37,7 @@ pub enum ParseError {
     Memory(AllocError),
 }
 
+// Each `From` is written out: clauses name the variant, and a derived one has no contract.
 impl From<LineFault> for ParseError {
     ghost from_gives = { λ e r. r ≡ Line e };
 

@@ -2,7 +2,7 @@ ghost use Rattle.std.specs.Prelude.{◌≡◌};
 ghost use Rattle.sharing.specs.Faults.{refusal};
 
 // Why a call of the cabinet was refused, and where.
-#[derive(Clone, Copy)]
+#[derive(Clone, Copy, PartialEq, Eq, Debug)]
 pub enum CabinetFault {
     // No scheme has this threshold and this many holders.
     Scheme,
