@@ -18,7 +18,7 @@ fn turned<G: Group>(g: &G, k: usize, m: &[G::Element], i: usize) -> G::Element
     ensures { result ≡ slice_index_or m.now (turned_from (length m.now) k i) (G.ops g.now).zero }
 {
     let from = if i < k { m.len() - (k - i - 1) } else { i - k };
-    if from < m.len() { m[from] } else { g.zero() }
+    m.get(from).copied().unwrap_or(g.zero())
 }
 
 // Multiplies `m` by x^k, by way of `tmp`: a turn by k places, less what comes to the zero's.
