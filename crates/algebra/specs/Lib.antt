@@ -1,6 +1,7 @@
 pub mod Group
 pub mod Module
 pub mod Scalars
+pub mod Circle
 pub mod Sharing
 pub mod Tuples
 pub mod Valid
@@ -9,4 +10,3 @@ pub mod Theorems
 pub mod Primes
 pub mod Rows
 pub mod Dealing
-pub mod Turns

@@ -1,6 +1,5 @@
 pub mod HelperLists
 pub mod Acting
-pub mod Indices
 pub mod Weights
 pub mod Horner
 pub mod Summing

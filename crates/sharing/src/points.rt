@@ -1,190 +1,185 @@
-ghost use Rattle.std.specs.Prelude.{◌≡◌, ℕ, ◌+◌, ◌-◌, ◌<◌, ◌≤◌, T, length, slice_index, slice_index_or};
+ghost use Rattle.std.specs.Prelude.{◌≡◌, ℕ, ◌+◌, ◌-◌, ◌%◌, ◌<◌, ◌≤◌, T, List, length, if◌then◌else◌, slice_index, slice_index_or};
+ghost use Rattle.algebra.specs.Circle.{ahead, ComesRound, Quotient};
 ghost use Rattle.algebra.specs.Dealing.{weight_at};
-ghost use Rattle.algebra.specs.Primes.{inverse_number};
-ghost use Rattle.algebra.specs.Scalars.{times, act, power, point, geometric};
-ghost use Rattle.algebra.specs.Sharing.{difference, inverse, factor};
-ghost use Rattle.algebra.specs.Tuples.{all_valid, list_ops};
-ghost use Rattle.algebra.specs.Turns.{turned_from};
+ghost use Rattle.algebra.specs.Primes.{OddPrime, inverse_number};
+ghost use Rattle.algebra.specs.Scalars.{act, point};
+ghost use Rattle.algebra.specs.Sharing.{inverse, factor};
+ghost use Rattle.algebra.specs.Tuples.{all_valid, ok, list_ops};
+ghost use Rattle.sharing.specs.Shares.{changed_element, changed};
 
-use crate::tuples::{add_into, fill_zero, negate};
+use crate::shares::Change;
 use groups::group::Group;
 
-// What comes to the place i where `m` and one zero after it make a turn by k places.
-fn turned<G: Group>(g: &G, k: usize, m: &[G::Element], i: usize) -> G::Element
-    requires turn { k ≤ length m.now + 1 }
-    requires place { i ≤ length m.now }
-    ensures { result ≡ slice_index_or m.now (turned_from (length m.now) k i) (G.ops g.now).zero }
+// The place d on from i, on a circle of q places.
+fn onward(q: usize, i: usize, d: usize) -> usize
+    requires place { i < q }
+    requires way { d < q }
+    ensures { result ≡ (i + d) % q }
 {
-    let from = if i < k { m.len() - (k - i - 1) } else { i - k };
-    if from < m.len() { m[from] } else { g.zero() }
+    let rest = q - d;
+    if i < rest { i + d } else { i - rest }
 }
 
-// Multiplies `m` by x^k, by way of `tmp`: a turn by k places, less what comes to the zero's.
-pub(crate) fn mul_power<G: Group>(g: &G, k: usize, m: &mut [G::Element], tmp: &mut [G::Element])
-    requires turn { k ≤ length m.old + 1 }
-    requires tmp { length tmp.old ≡ length m.old }
-    ensures { T (all_valid (G.ops g.now) m.old) → m.new ≡ act (list_ops (G.ops g.now) (length m.old)) (power k) m.old }
+// The way from the place i on to the place j, on a circle of q places.
+fn way(q: usize, i: usize, j: usize) -> usize
+    requires from { i < q }
+    requires to { j < q }
+    ensures { result ≡ ahead q i j }
 {
-    let back = g.negative(turned(g, k, m, m.len()));
-    for i in 0..m.len() {
-        tmp[i] = g.sum(turned(g, k, m, i), back);
-    }
-    m.copy_from_slice(tmp);
+    if j < i { q - i + j } else { j - i }
 }
 
-// Writes 1 + x^d + .. + x^(d(e-1)) times `m` to `out`, by way of `tmp`.
-pub(crate) fn mul_geometric<G: Group>(
-    g: &G,
-    d: usize,
-    e: usize,
-    m: &[G::Element],
-    out: &mut [G::Element],
-    tmp: &mut [G::Element],
-)
-    requires turn { d ≤ length m.now + 1 }
-    requires out { length out.old ≡ length m.now }
-    requires tmp { length tmp.old ≡ length m.now }
-    ensures { T (all_valid (G.ops g.now) m.now) → out.new ≡ act (list_ops (G.ops g.now) (length m.now)) (geometric d e) m.now }
+// What stands at the place i, where one zero stands after `m`.
+fn place<G: Group>(g: &G, m: &[G::Element], i: usize) -> G::Element
+    ensures { result ≡ slice_index_or m.now i (G.ops g.now).zero }
 {
-    fill_zero(g, out);
-    for done in 0..e {
-        mul_power(g, d, out, tmp);
-        add_into(g, out, m);
+    if i < m.len() { m[i] } else { g.zero() }
+}
+
+// What stands i places before s on the circle.
+fn behind<G: Group>(g: &G, q: usize, m: &[G::Element], s: usize, i: usize) -> G::Element
+    requires m { length m.now ≡ q - 1 }
+    requires s { s < q - 1 }
+    requires some { 1 ≤ i }
+    requires below { i < q }
+    ensures { result ≡ slice_index_or m.now ((s + (q - i)) % q) (G.ops g.now).zero }
+{
+    if s < i {
+        place(g, m, s + (q - i))
+    } else {
+        m[s - i]
     }
 }
 
-// Multiplies `m` by x^a (1 + x^d + .. + x^(d(e-1))), by way of `product` and `tmp`.
-pub(crate) fn mul_term<G: Group>(
-    g: &G,
-    a: usize,
-    d: usize,
-    e: usize,
-    m: &mut [G::Element],
-    product: &mut [G::Element],
-    tmp: &mut [G::Element],
-)
-    requires turn { a ≤ length m.old + 1 }
-    requires turns { d ≤ length m.old + 1 }
-    requires product { length product.old ≡ length m.old }
-    requires tmp { length tmp.old ≡ length m.old }
-    ensures { T (all_valid (G.ops g.now) m.old) → m.new ≡ act (list_ops (G.ops g.now) (length m.old)) (times (power a) (geometric d e)) m.old }
-{
-    mul_geometric(g, d, e, m, product, tmp);
-    m.copy_from_slice(product);
-    mul_power(g, a, m, tmp);
-}
-
-// Multiplies `m` by the point k less the point j, by way of `product` and `tmp`.
-pub(crate) fn mul_difference<G: Group>(
-    g: &G,
-    k: usize,
-    j: usize,
-    m: &mut [G::Element],
-    product: &mut [G::Element],
-    tmp: &mut [G::Element],
-)
-    requires turn { k ≤ length m.old + 1 }
-    requires product { length product.old ≡ length m.old }
-    requires tmp { length tmp.old ≡ length m.old }
-    ensures { T (all_valid (G.ops g.now) m.old) → m.new ≡ act (list_ops (G.ops g.now) (length m.old)) (difference k j) m.old }
-{
-    mul_term(g, k.min(j), 1, k.abs_diff(j), m, product, tmp);
-    if j < k {
-        return;
-    }
-    negate(g, m);
-}
-
-// The number from 1 to q - 1 that times d is one more than a multiple of q; 0 where there is none.
-pub(crate) fn inverse_number(q: usize, d: usize) -> usize
-    requires small { q ≤ 31 }
-    requires below { d < q }
-    ensures { result ≡ inverse_number q d }
-{
-    for e in 1..q {
-        if d * e % q == 1 {
-            return e;
-        }
-    }
-    0
-}
-
-// Multiplies `m` by the inverse of the point k less the point j, by way of `product` and `tmp`.
-pub(crate) fn mul_inverse<G: Group>(
+// Writes to `out` the tuple that times 1 - x^d is x^a - x^d times `m` on a circle of q places, where
+// there is one; a and `come` make a whole turn.
+//
+// It walks around in steps of d from the zero's place: each step adds what comes in and takes away
+// what stood there before, so that a sum of many powers of x costs one pass.
+fn mul_quotient<G: Group>(
     g: &G,
     q: usize,
-    k: usize,
-    j: usize,
-    m: &mut [G::Element],
-    product: &mut [G::Element],
-    tmp: &mut [G::Element],
+    d: usize,
+    come: usize,
+    m: &[G::Element],
+    out: &mut [G::Element],
 )
-    requires small { q ≤ 31 }
-    requires k { k < q }
-    requires j { j < q }
-    requires m { length m.old ≡ q - 1 }
-    requires product { length product.old ≡ length m.old }
-    requires tmp { length tmp.old ≡ length m.old }
-    ensures { T (all_valid (G.ops g.now) m.old) → m.new ≡ act (list_ops (G.ops g.now) (length m.old)) (inverse q (inverse_number q) k j) m.old }
+    requires d { d < q }
+    requires come { come < q }
+    requires round { ComesRound q d }
+    requires m { length m.now ≡ q - 1 }
+    requires out { length out.old ≡ q - 1 }
+    ensures { T (all_valid (G.ops g.now) m.now) → (r : List G.Element) → T (ok (G.ops g.now) (q - 1) r) → Quotient (G.ops g.now) q d come (q - d) m.now r → out.new ≡ r }
 {
-    let d = k.abs_diff(j);
-    let e = inverse_number(q, d);
-    mul_term(g, q - k.min(j), d, e, m, product, tmp);
-    if j < k {
-        return;
+    let mut to = q - 1;
+    let mut less = g.zero();
+    let mut sum = g.zero();
+    for done in 0..m.len() {
+        to = onward(q, to, d);
+        let more = place(g, m, onward(q, to, come));
+        sum = g.sum(sum, g.difference(more, less));
+        less = m[to];
+        out[to] = sum;
     }
-    negate(g, m);
 }
 
-// Multiplies `m` by k's part in the weight of j at the point p, by way of `product` and `tmp`.
-pub(crate) fn mul_factor<G: Group>(
+// `b` added to `a`, or taken from it.
+pub(crate) fn change_element<G: Group>(
+    g: &G,
+    change: Change,
+    a: G::Element,
+    b: G::Element,
+) -> G::Element
+    ensures { T ((G.ops g.now).valid a) → T ((G.ops g.now).valid b) → result ≡ changed_element (G.ops g.now) change a b }
+{
+    match change {
+        Change::Add => g.sum(a, b),
+        Change::Subtract => g.difference(a, b),
+    }
+}
+
+// Adds the point i times `m` to `to`, or takes it from `to`.
+pub(crate) fn change_point<G: Group>(
+    g: &G,
+    change: Change,
+    q: usize,
+    i: usize,
+    m: &[G::Element],
+    to: &mut [G::Element],
+)
+    requires two { 2 ≤ q }
+    requires some { 1 ≤ i }
+    requires below { i < q }
+    requires m { length m.now ≡ q - 1 }
+    requires to { length to.old ≡ q - 1 }
+    ensures { T (all_valid (G.ops g.now) m.now) → T (all_valid (G.ops g.now) to.old) → to.new ≡ changed (G.ops g.now) change to.old (act (list_ops (G.ops g.now) (q - 1)) (point i) m.now) }
+{
+    let mut sum = g.zero();
+    for s in 0..m.len() {
+        let less = behind(g, q, m, s, i);
+        sum = g.sum(sum, g.difference(m[s], less));
+        to[s] = change_element(g, change, to[s], sum);
+    }
+}
+
+// Multiplies the tuple in `a`, or in `b` where `over`, by k's part in the weight of j at the point p,
+// into the other one of them. Answers whether it is in `b` now.
+fn mul_factor<G: Group>(
     g: &G,
     q: usize,
     k: usize,
     p: usize,
     j: usize,
-    m: &mut [G::Element],
-    product: &mut [G::Element],
-    tmp: &mut [G::Element],
-)
-    requires two { 2 ≤ q }
+    over: bool,
+    a: &mut [G::Element],
+    b: &mut [G::Element],
+) -> bool
+    requires prime { OddPrime q }
     requires small { q ≤ 31 }
     requires k { k < q }
+    requires p { p < q }
     requires j { j < q }
-    requires m { length m.old ≡ q - 1 }
-    requires product { length product.old ≡ q - 1 }
-    requires tmp { length tmp.old ≡ q - 1 }
-    ensures { T (all_valid (G.ops g.now) m.old) → m.new ≡ act (list_ops (G.ops g.now) (length m.old)) (factor point (inverse q (inverse_number q)) (point p) j k) m.old }
+    requires a { length a.old ≡ q - 1 }
+    requires b { length b.old ≡ q - 1 }
+    ensures { T (all_valid (G.ops g.now) (if over then b.old else a.old)) → (if result then b.new else a.new) ≡ act (list_ops (G.ops g.now) (q - 1)) (factor point (inverse q (inverse_number q)) (point p) j k) (if over then b.old else a.old) }
 {
     if k == j {
-        return;
+        return over;
     }
-    mul_inverse(g, q, k, j, m, product, tmp);
-    mul_difference(g, k, p, m, product, tmp);
+    let d = way(q, j, k);
+    let come = way(q, p, j);
+    if over {
+        mul_quotient(g, q, d, come, b, a);
+        return false;
+    }
+    mul_quotient(g, q, d, come, a, b);
+    true
 }
 
-// Multiplies `m` by the weight of j among the helpers at the point p, by way of `product` and `tmp`.
+// Multiplies the tuple in `a` by the weight of j among the helpers at the point p, by way of `b`.
+// Answers whether the product is in `b`.
 pub(crate) fn mul_weight<G: Group>(
     g: &G,
     q: usize,
     helpers: &[u32],
     p: usize,
     j: usize,
-    m: &mut [G::Element],
-    product: &mut [G::Element],
-    tmp: &mut [G::Element],
-)
-    requires two { 2 ≤ q }
+    a: &mut [G::Element],
+    b: &mut [G::Element],
+) -> bool
+    requires prime { OddPrime q }
     requires small { q ≤ 31 }
     requires helpers { (i : ℕ) → i < length helpers.now → slice_index helpers.now i < q }
     requires j { j < q }
-    requires m { length m.old ≡ q - 1 }
-    requires product { length product.old ≡ q - 1 }
-    requires tmp { length tmp.old ≡ q - 1 }
-    ensures { T (all_valid (G.ops g.now) m.old) → m.new ≡ act (list_ops (G.ops g.now) (q - 1)) (weight_at q helpers.now p j) m.old }
+    requires a { length a.old ≡ q - 1 }
+    requires b { length b.old ≡ q - 1 }
+    ensures { T (all_valid (G.ops g.now) a.old) → (if result then b.new else a.new) ≡ act (list_ops (G.ops g.now) (q - 1)) (weight_at q helpers.now p j) a.old }
 {
+    let turned = p % q;
+    let mut over = false;
     for i in (0..helpers.len()).rev() {
         let k = helpers[i] as usize;
-        mul_factor(g, q, k, p, j, m, product, tmp);
+        over = mul_factor(g, q, k, turned, j, over, a, b);
     }
+    over
 }

@@ -5,11 +5,10 @@ ghost use Rattle.algebra.specs.Dealing.{dealt, tuple_at};
 ghost use Rattle.sharing.specs.Verdicts.{first, verdict};
 ghost use Rattle.sharing.specs.Shares.{changed, length_rows, dealing_rows, tuple_rows, Interpolated};
 
-use crate::dealing::{deal_into, interpolate};
+use crate::dealing::{change_share, evaluate, interpolate};
 use crate::fault::CabinetFault;
 use crate::helpers::{check_helpers, check_holder};
 use crate::scheme::Scheme;
-use crate::tuples::{add_into, subtract_into};
 use groups::group::Group;
 
 // Whether what is dealt is added to a share or taken from it.
@@ -26,8 +25,8 @@ fn check_lengths(scheme: Scheme, shares: usize, scratch: usize) -> Result<(), Ca
     if shares != scheme.share_length() {
         return Err(CabinetFault::MemoryLength(scheme.share_length()));
     }
-    if scratch != 3 * scheme.width() {
-        return Err(CabinetFault::MemoryLength(3 * scheme.width()));
+    if scratch != 2 * scheme.width() {
+        return Err(CabinetFault::MemoryLength(2 * scheme.width()));
     }
     Ok(())
 }
@@ -52,37 +51,8 @@ fn check_tuple(scheme: Scheme, out: usize, helpers: &[u32]) -> Result<(), Cabine
     check_helpers(scheme, helpers)
 }
 
-// Adds `from` to `to`, or takes it from `to`.
-fn change_into<G: Group>(group: &G, change: Change, to: &mut [G::Element], from: &[G::Element])
-    requires { length from.now ≡ length to.old }
-    ensures { T (all_valid (G.ops group.now) to.old) → T (all_valid (G.ops group.now) from.now) → to.new ≡ changed (G.ops group.now) change to.old from.now }
-{
-    match change {
-        Change::Add => add_into(group, to, from),
-        Change::Subtract => subtract_into(group, to, from),
-    }
-}
-
-// Adds a tuple to the row h of the share memory, or takes it from that row, and leaves the other
-// rows.
-fn change_row<G: Group>(
-    group: &G,
-    change: Change,
-    width: usize,
-    h: usize,
-    tuple: &[G::Element],
-    shares: &mut [G::Element],
-)
-    requires tuple { length tuple.now ≡ width }
-    requires within { h * width + width ≤ length shares.old }
-    ensures { T (all_valid (G.ops group.now) shares.old) → T (all_valid (G.ops group.now) tuple.now) → shares.new ≡ put_row width h (changed (G.ops group.now) change (row_at width h shares.old) tuple.now) shares.old }
-{
-    let start = h * width;
-    let row = &mut shares[start..start + width];
-    change_into(group, change, row, tuple);
-}
-
-// Adds to the row h of the share memory what its holder is dealt, or takes that from it.
+// Adds to the row h of the share memory what its holder is dealt, or takes that from it, and leaves
+// the other rows.
 fn deal_row<G: Group>(
     group: &G,
     scheme: Scheme,
@@ -95,16 +65,18 @@ fn deal_row<G: Group>(
 )
     requires known { h < scheme.n }
     requires full { length shares.old ≡ scheme.n * (scheme.q - 1) }
-    requires room { length scratch.old ≡ 3 * (scheme.q - 1) }
+    requires room { length scratch.old ≡ 2 * (scheme.q - 1) }
     requires count { length coefficients.now ≡ (scheme.t - 1) * (scheme.q - 1) }
     ensures { T (all_valid (G.ops group.now) shares.old) → T ((G.ops group.now).valid key) → T (all_valid (G.ops group.now) coefficients.now) → shares.new ≡ put_row (scheme.q - 1) h (changed (G.ops group.now) change (row_at (scheme.q - 1) h shares.old) (dealt (G.ops group.now) (scheme.q - 1) (h + 1) key (scheme.t - 1) coefficients.now)) shares.old }
 {
-    let width = scheme.q - 1;
+    let q = scheme.q;
+    let width = q - 1;
     let count = scheme.t - 1;
-    let (out, rest) = scratch.split_at_mut(width);
-    let (product, tmp) = rest.split_at_mut(width);
-    deal_into(group, h + 1, key, coefficients, count, out, product, tmp);
-    change_row(group, change, width, h, out, shares);
+    let (value, other) = scratch.split_at_mut(width);
+    evaluate(group, q, h + 1, coefficients, count, value, other);
+    let start = h * width;
+    let share = &mut shares[start..start + width];
+    change_share(group, change, q, h + 1, key, value, share);
 }
 
 // Adds to a holder's share what dealing the key with these coefficients gives that holder, or takes
@@ -146,15 +118,12 @@ fn write_tuple<G: Group>(
     requires known { (i : ℕ) → i < length helpers.now → (1 ≤ slice_index helpers.now i) × (slice_index helpers.now i ≤ scheme.n) }
     requires full { length shares.now ≡ scheme.n * (scheme.q - 1) }
     requires tuple { length out.old ≡ scheme.q - 1 }
-    requires room { length scratch.old ≡ 3 * (scheme.q - 1) }
+    requires room { length scratch.old ≡ 2 * (scheme.q - 1) }
     ensures { T (all_valid (G.ops group.now) shares.now) → out.new ≡ tuple_at (G.ops group.now) scheme.q helpers.now point shares.now }
 {
     let width = scheme.q - 1;
-    let (term, rest) = scratch.split_at_mut(width);
-    let (product, tmp) = rest.split_at_mut(width);
-    interpolate(
-        group, scheme.q, helpers, point, shares, out, term, product, tmp,
-    );
+    let (term, other) = scratch.split_at_mut(width);
+    interpolate(group, scheme.q, helpers, point, shares, out, term, other);
 }
 
 // Writes the tuple that t helpers' shares give at a point to `out`.

@@ -1,6 +1,6 @@
-ghost use Rattle.std.specs.Prelude.{◌≡◌, T, length};
+ghost use Rattle.std.specs.Prelude.{◌≡◌, T, length, if◌then◌else◌};
 ghost use Rattle.algebra.specs.Rows.{first_place};
-ghost use Rattle.algebra.specs.Tuples.{all_valid, invalid_at, tuple_zero, tuple_plus, tuple_minus, tuple_less};
+ghost use Rattle.algebra.specs.Tuples.{all_valid, invalid_at, tuple_zero, tuple_plus};
 
 use groups::group::Group;
 
@@ -27,7 +27,7 @@ pub fn first_invalid<G: Group>(g: &G, xs: &[G::Element]) -> Option<usize>
 }
 
 // Adds `from` to `to`.
-pub(crate) fn add_into<G: Group>(g: &G, to: &mut [G::Element], from: &[G::Element])
+fn add_into<G: Group>(g: &G, to: &mut [G::Element], from: &[G::Element])
     requires { length from.now ≡ length to.old }
     ensures { T (all_valid (G.ops g.now) to.old) → T (all_valid (G.ops g.now) from.now) → to.new ≡ tuple_plus (G.ops g.now) to.old from.now }
 {
@@ -36,21 +36,21 @@ pub(crate) fn add_into<G: Group>(g: &G, to: &mut [G::Element], from: &[G::Elemen
     }
 }
 
-// Takes `from` from `to`.
-pub(crate) fn subtract_into<G: Group>(g: &G, to: &mut [G::Element], from: &[G::Element])
-    requires { length from.now ≡ length to.old }
-    ensures { T (all_valid (G.ops g.now) to.old) → T (all_valid (G.ops g.now) from.now) → to.new ≡ tuple_less (G.ops g.now) to.old from.now }
+// Adds `a` to `to`, or `b` where `over`.
+pub(crate) fn add_one_into<G: Group>(
+    g: &G,
+    to: &mut [G::Element],
+    over: bool,
+    a: &[G::Element],
+    b: &[G::Element],
+)
+    requires a { length a.now ≡ length to.old }
+    requires b { length b.now ≡ length to.old }
+    ensures { T (all_valid (G.ops g.now) to.old) → T (all_valid (G.ops g.now) (if over then b.now else a.now)) → to.new ≡ tuple_plus (G.ops g.now) to.old (if over then b.now else a.now) }
 {
-    for i in 0..to.len() {
-        to[i] = g.sum(to[i], g.negative(from[i]));
-    }
-}
-
-// Turns each element into its negative.
-pub(crate) fn negate<G: Group>(g: &G, to: &mut [G::Element])
-    ensures { T (all_valid (G.ops g.now) to.old) → to.new ≡ tuple_minus (G.ops g.now) to.old }
-{
-    for i in 0..to.len() {
-        to[i] = g.negative(to[i]);
+    if over {
+        add_into(g, to, b);
+    } else {
+        add_into(g, to, a);
     }
 }

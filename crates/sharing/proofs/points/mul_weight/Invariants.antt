@@ -1,10 +1,9 @@
-use Rattle.std.proofs.Common.{◌≡◌, ◌-◌, T, drop}
-use Rattle.algebra.specs.Scalars.{act}
-use Rattle.algebra.specs.Tuples.{all_valid, list_ops}
-use Rattle.algebra.specs.Dealing.{weight_at}
+use Rattle.std.proofs.Common.{◌≡◌, cond, T}
+use Rattle.algebra.specs.Tuples.{all_valid}
+use Rattle.sharing.proofs.Weights.{weighted}
 use Rattle.sharing.proofs.points.mul_weight.Given as goal
 
 abbrev pub invariant-loop-i : goal.invariant-loop-i
 invariant-loop-i g l =
     let G = g.G.Group.ops l.g in
-    T (all_valid G l.initial.m) → l.m ≡ act (list_ops G (l.q - 1)) (weight_at l.q (drop l.i l.helpers) l.p l.j) l.initial.m
+    T (all_valid G l.initial.a) → cond l.over l.b l.a ≡ weighted G (g.met.G.Group.laws l.g) l.q l.p l.j l.helpers l.initial.a l.i

@@ -7,13 +7,12 @@ interpolate-requires g c =
     let s = c.args.scheme in
     let w = s.q - 1 in
     record {
-      two = omega arith;
+      prime = s.prime;
       small = s.small;
       low = λ i h. (c.requires.known i h).0;
       below = λ i h. omega (arith, (c.requires.known i h).1, s.above);
       held = λ i h. omega (arith, mul-le (get_or c.args.helpers.now i 0) w s.n w (c.requires.known i h).1 (le_refl w));
       out = omega arith;
       term = omega arith;
-      product = omega arith;
-      tmp = omega arith;
+      other = omega arith;
     }
