@@ -2,11 +2,11 @@
 use Rattle.std.proofs.Common.{◌≡◌, ℕ, zero, suc, ◌+◌, ◌-◌, ◌*◌, ◌%◌, ◌<◌, ◌≤◌, T, List, [], ◌∷◌, length, get_or, sym, refl, ap, ◌∙◌, subst, ap₂, inl, inr, le_of_suc-le-suc, not-suc-le-zero, mod-lt, mod-eq_of_lt, arith}
 use mathlib.Core.Path.{fun_ext}
 use mathlib.Core.HLevel.{Σ_prop_path}
-use native.Mathlib.Nat.{mod-add-mod, add-mod-mod, add-mod_right, mod_self, zero-mod, add-mul-mod_self_right}
+use Rattle.std.proofs.Math.Nat.{mod-add-mod, add-mod-mod, add-mod_right, mod_self, zero-mod, add-mul-mod_self_right}
 use lib.Dec.{T_prop}
 use Rattle.std.proofs.lemmas.List.{get_or_past}
 use Rattle.std.proofs.lemmas.Bool.{cases_lt}
-use Rattle.algebra.specs.Circle.{ahead, around, Quotient}
+use Rattle.algebra.specs.Circle.{ahead, inverse_around, around, Quotient}
 use Rattle.algebra.specs.Group.{GroupOps, GroupLaws}
 use Rattle.algebra.specs.Module.{ModuleOps, ModuleLaws}
 use Rattle.algebra.specs.Tuples.{all_valid, tuple_zero, tuple_plus, tuple_minus, last, moved, times_x, ok, list_ops}
@@ -14,10 +14,13 @@ use Rattle.algebra.specs.Valid.{head_valid, tail_valid, last_valid, less_valid, 
 use Rattle.algebra.specs.Space.{Tuple, tuple_ops, ok_length, ok_valid}
 use Rattle.algebra.specs.Scalars.{Scalar, times, act, power, point, geometric}
 use Rattle.algebra.specs.Sharing.{less, inverse}
+use Rattle.algebra.specs.Theorems.{Inverts}
 use Rattle.algebra.proofs.Actions.{undo, redo}
 use Rattle.algebra.proofs.Places.{get_or_plus, get_or_minus, get_or_moved, get_or_last}
 use Rattle.algebra.proofs.TupleSums.{zero_plus, minus_zero, minus_plus}
 use Rattle.algebra.proofs.TupleModule.{act_list}
+use Rattle.algebra.proofs.Dealings.{around_list}
+use Rattle.algebra.proofs.Ways.{ahead_some}
 use Rattle.algebra.proofs.Quotients.{point_run, factor_run}
 use Rattle.algebra.proofs.Circles.{turned_back, circle, circle_laws, power_at, Reads, runs}
 
@@ -197,13 +200,20 @@ module _ {C : Type 0} (G : GroupOps C) (L : GroupLaws G) where
       let e : suc n ≡ suc (suc n) - 1 = omega arith in
       subst (λ (w : ℕ). T (ok G w m) → Quotient G (suc (suc n)) 1 0 (suc (suc n) - i) m (act (list_ops G w) (point i) m)) e (point_quotient n i l m) h
 
-  -- (a(k) - a(p)) / (a(k) - a(j)), where the way from j on to k comes round
-  pub factor_is : (q k p j : ℕ) (inv : ℕ → ℕ) → 2 ≤ q → k < q → p < q → j < q → (ahead q j k * inv (ahead q j k)) % q ≡ 1 → (m : List C) → T (ok G (q - 1) m)
-      → Quotient G q (ahead q j k) (ahead q p j) (ahead q k j) m (act (list_ops G (q - 1)) (times (less (point k) (point p)) (inverse q inv k j)) m)
-  factor_is zero k p j inv two hk hp hj one m h = absurd (not-suc-le-zero two)
-  factor_is (suc zero) k p j inv two hk hp hj one m h = absurd (not-suc-le-zero (le_of_suc-le-suc two))
-  factor_is (suc (suc n)) k p j inv two hk hp hj one m h =
+  -- (a(k) - a(p)) / (a(k) - a(j)), for two distinct indices
+  factor_around : (q k p j : ℕ) (inv : ℕ → ℕ) → 2 ≤ q → k < q → p < q → j < q → (ahead q j k * inv (ahead q j k)) % q ≡ 1 → (m : List C) → T (ok G (q - 1) m)
+      → Quotient G q (ahead q j k) (ahead q p j) (ahead q k j) m (act (list_ops G (q - 1)) (times (less (point k) (point p)) (inverse_around q inv k j)) m)
+  factor_around zero k p j inv two hk hp hj one m h = absurd (not-suc-le-zero two)
+  factor_around (suc zero) k p j inv two hk hp hj one m h = absurd (not-suc-le-zero (le_of_suc-le-suc two))
+  factor_around (suc (suc n)) k p j inv two hk hp hj one m h =
       let q : ℕ = suc (suc n) in
       let e : suc n ≡ suc (suc n) - 1 = omega arith in
-      subst (λ (w : ℕ). T (ok G w m) → Quotient G q (ahead q j k) (ahead q p j) (ahead q k j) m (act (list_ops G w) (times (less (point k) (point p)) (inverse q inv k j)) m)) e
+      subst (λ (w : ℕ). T (ok G w m) → Quotient G q (ahead q j k) (ahead q p j) (ahead q k j) m (act (list_ops G w) (times (less (point k) (point p)) (inverse_around q inv k j)) m)) e
       (factor_quotient n k p j (inv (ahead q j k)) hk hp hj one m) h
+
+  pub factor_is : (q k p j : ℕ) (inv : ℕ → ℕ) → Inverts q inv → 2 ≤ q → k < q → p < q → j < q → (k ≡ j → ⊥) → (m : List C) → T (ok G (q - 1) m)
+      → Quotient G q (ahead q j k) (ahead q p j) (ahead q k j) m (act (list_ops G (q - 1)) (times (less (point k) (point p)) (inverse q inv k j)) m)
+  factor_is q k p j inv inverts two hk hp hj apart m h =
+      let one_way = inverts (ahead q j k) (ahead_some q j k hj hk apart) (mod-lt (k + (q - j)) (omega arith)) in
+      subst (λ (l : List C). Quotient G q (ahead q j k) (ahead q p j) (ahead q k j) m (act (list_ops G (q - 1)) (less (point k) (point p)) l))
+      (around_list G L q two inv inverts k j hk hj apart m h) (factor_around q k p j inv two hk hp hj one_way m h)

@@ -1,7 +1,7 @@
 -- Functions on a circle of q places: a module in which x only turns. What tuples are read as, up to one element for all places.
 use Rattle.std.proofs.Common.{◌≡◌, ℕ, zero, suc, ◌+◌, ◌*◌, ◌%◌, sym, refl, ap, ◌∙◌, ap₂, arith}
 use mathlib.Core.Path.{fun_ext}
-use native.Mathlib.Nat.{add-mod-mod, add-mul-mod_self_right}
+use Rattle.std.proofs.Math.Nat.{add-mod-mod, add-mul-mod_self_right}
 use Rattle.algebra.specs.Module.{ModuleOps, ModuleLaws}
 use Rattle.algebra.specs.Scalars.{Scalar, nought, one, root, plus, times, minus, act, power}
 use Rattle.algebra.proofs.Actions.{interchange, cancel, neg_add, act_add}

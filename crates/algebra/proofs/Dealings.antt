@@ -1,24 +1,43 @@
 -- What holds of tuples holds of the lists that the code computes on: values, what is dealt, and interpolation.
-use Rattle.std.proofs.Common.{◌≡◌, ℕ, zero, suc, ◌-◌, ◌*◌, ◌<◌, ◌≤◌, T, List, [], ◌∷◌, length, take, drop, sym, refl, ap, ◌∙◌, subst, ap₂, suc-mul, arith}
+use Rattle.std.proofs.Common.{◌≡◌, ℕ, zero, suc, ◌-◌, ◌*◌, ◌<◌, ◌≤◌, T, ltb, List, [], ◌∷◌, length, take, drop, sym, refl, ap, ◌∙◌, subst, ap₂, suc-mul, arith}
 use lib.ListN.{length-replicate}
 use Rattle.std.specs.List.{AllByRecursion}
 use Rattle.std.proofs.ByRecursion.{All-weaker}
 use Rattle.std.proofs.lemmas.List.{length-take-le, length-drop}
+use Rattle.std.proofs.lemmas.Bool.{cond_both, ltb-true, ltb-false}
+use Rattle.algebra.specs.Circle.{inverse_around}
 use Rattle.algebra.specs.Group.{GroupOps, GroupLaws}
+use Rattle.algebra.specs.Module.{ModuleOps, ModuleLaws}
 use Rattle.algebra.specs.Tuples.{all_valid, tuple_zero, tuple_plus, ok, list_ops}
 use Rattle.algebra.specs.Valid.{cons_valid, zero_tuple_valid}
 use Rattle.algebra.specs.Space.{Tuple, tuple_ops, ok_of, zero_ok, plus_ok}
-use Rattle.algebra.specs.Scalars.{Scalar, act, point}
-use Rattle.algebra.specs.Sharing.{value, repeat, terms, total}
+use Rattle.algebra.specs.Scalars.{Scalar, minus, act, power, point, geometric}
+use Rattle.algebra.specs.Sharing.{less, difference_above, difference, inverse, value, repeat, terms, total}
 use Rattle.algebra.specs.Theorems.{Inverts, Distinct}
 use Rattle.algebra.specs.Primes.{inverse_number}
 use Rattle.algebra.specs.Rows.{rows, row_at}
 use Rattle.algebra.specs.Dealing.{embedded, dealt, weight_at, tuple_at, Interpolates, ZeroIsKey}
-use Rattle.algebra.proofs.Actions.{act_nil}
+use Rattle.algebra.proofs.Actions.{act_neg, act_nil}
+use Rattle.algebra.proofs.Points.{less_above, less_swap}
+use Rattle.algebra.proofs.Ways.{around_inverse}
 use Rattle.algebra.proofs.Polynomials.{terms_value}
 use Rattle.algebra.proofs.TupleModule.{tuple_sums, tuple_laws, act_list}
 use Rattle.algebra.proofs.RowLists.{take_valid, drop_valid, part_valid, row_before, length_rows}
 use Rattle.algebra.proofs.Theorems.{sharing}
+
+pub geometric_point : {M : Type 0} (O : ModuleOps M) (e : ℕ) (m : M) → act O (geometric 1 e) m ≡ act O (point e) m
+geometric_point O zero m = refl
+geometric_point O (suc e) m = ap (λ s. O.add m (O.shift s)) (geometric_point O e m)
+
+module _ {M : Type 0} {O : ModuleOps M} {q : ℕ} (L : ModuleLaws O q) where
+  above_less : (k j : ℕ) → j ≤ k → (m : M) → act O (difference_above k j) m ≡ act O (less (point k) (point j)) m
+  above_less k j h m = ap (act O (power j)) (geometric_point O (k - j) m) ∙ sym (less_above L k j h m)
+
+  across_less : (k j : ℕ) (m : M) → act O (difference k j) m ≡ act O (less (point k) (point j)) m
+  across_less k j m =
+      cond_both (ltb j k) (difference_above k j) (minus (difference_above j k)) (λ s. act O s m ≡ act O (less (point k) (point j)) m)
+      (λ e. let h : j < k = ltb-true j k e in above_less k j (omega arith) m)
+      (λ e. ap O.neg (above_less j k (ltb-false j k e) m) ∙ sym (act_neg L (less (point j) (point k)) m) ∙ less_swap L (point j) (point k) m)
 
 module _ {C : Type 0} (G : GroupOps C) (L : GroupLaws G) (w : ℕ) where
   -- the list of a tuple is ok
@@ -110,6 +129,13 @@ module _ {C : Type 0} (G : GroupOps C) (L : GroupLaws G) (w : ℕ) where
   total_ok f (j ∷ B) h = plus_ok G L w (f j) (total (list_ops G w) f B) h.0 (total_ok f B h.1)
 
 module _ {C : Type 0} (G : GroupOps C) (L : GroupLaws G) (q : ℕ) (two : 2 ≤ q) where
+  pub difference_less : (k j : ℕ) (m : List C) → T (ok G (q - 1) m) → act (list_ops G (q - 1)) (difference k j) m ≡ act (list_ops G (q - 1)) (less (point k) (point j)) m
+  difference_less k j = act_equal G L (q - 1) (difference k j) (less (point k) (point j)) (across_less (tuple_sums G L (q - 1)) k j)
+
+  pub around_list : (inv : ℕ → ℕ) → Inverts q inv → (k j : ℕ) → k < q → j < q → (k ≡ j → ⊥) → (m : List C) → T (ok G (q - 1) m)
+      → act (list_ops G (q - 1)) (inverse_around q inv k j) m ≡ act (list_ops G (q - 1)) (inverse q inv k j) m
+  around_list inv inverts k j hk hj apart = act_equal G L (q - 1) (inverse_around q inv k j) (inverse q inv k j) (around_inverse (tuple_laws G L q two) inv inverts k j hk hj apart)
+
   pub weight_ok : (B : List ℕ) (p j n : ℕ) (shares : List C) → 1 ≤ j → j ≤ n → length shares ≡ n * (q - 1) → T (all_valid G shares) → T (ok G (q - 1) (act (list_ops G (q - 1)) (weight_at q B p j) (row_at (q - 1) (j - 1) shares)))
   weight_ok B p j n shares low high e h = act_ok G L (q - 1) (weight_at q B p j) _ (row_ok G L (q - 1) j n shares low high e h)
 

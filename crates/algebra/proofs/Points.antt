@@ -1,33 +1,10 @@
 -- The powers and the points, and the inverses of the points' differences.
-use Rattle.std.proofs.Common.{◌≡◌, ℕ, zero, suc, ◌+◌, ◌-◌, ◌*◌, ◌/◌, ◌%◌, ◌<◌, ◌≤◌, sym, refl, ap, ◌∙◌, inl, inr, mod-lt, mod-eq_of_lt, add-sub_of_le, suc-add, mul-zero, zero-add, add-one, arith}
-use native.Mathlib.Nat.{add-mod-mod, add-mod_right, div-add-mod}
-use Rattle.std.proofs.lemmas.Bool.{cases_lt}
-use Rattle.algebra.specs.Circle.{ahead}
+use Rattle.std.proofs.Common.{◌≡◌, ℕ, zero, suc, ◌+◌, ◌-◌, ◌*◌, ◌/◌, ◌%◌, ◌<◌, ◌≤◌, ltb, sym, refl, ap, ◌∙◌, add-sub_of_le, suc-add, mul-zero, zero-add, add-one, arith}
+use Rattle.std.proofs.lemmas.Bool.{cond_both, ltb-true, ltb-false}
 use Rattle.algebra.specs.Module.{ModuleOps, ModuleLaws, first_powers}
-use Rattle.algebra.specs.Scalars.{root, act, power, point, geometric}
-use Rattle.algebra.specs.Sharing.{less, inverse}
-use Rattle.algebra.proofs.Actions.{nil_add, undo, act_add, act_nil, act_comm}
-
--- the way from one place to another, where the other comes first, and where it does not
-ahead_over : (q j k : ℕ) → j < q → k < j → ahead q j k ≡ k + (q - j)
-ahead_over q j k hj l = mod-eq_of_lt (omega arith)
-
-ahead_straight : (q j k : ℕ) → j < q → k < q → j ≤ k → ahead q j k ≡ k - j
-ahead_straight q j k hj hk l = let s : k + (q - j) ≡ k - j + q = omega arith in ap (λ n. n % q) s ∙ add-mod_right (k - j) q ∙ mod-eq_of_lt (omega arith)
-
--- there is some way from one place to another
-pub ahead_some : (q j k : ℕ) → j < q → k < q → (k ≡ j → ⊥) → 0 < ahead q j k
-ahead_some q j k hj hk apart = elim (cases_lt k j) [
-  | inl l ↦ omega (arith, ahead_over q j k hj l)
-  | inr l ↦ elim (cases_lt j k) [ inl l' ↦ omega (arith, ahead_straight q j k hj hk l) | inr l' ↦ absurd (apart (omega arith)) ]
-]
-
--- and with the way back it makes a turn
-pub ahead_back : (q j k : ℕ) → j < q → k < q → (k ≡ j → ⊥) → ahead q k j ≡ q - ahead q j k
-ahead_back q j k hj hk apart = elim (cases_lt k j) [
-  | inl l ↦ omega (arith, ahead_over q j k hj l, ahead_straight q k j hk hj (omega arith))
-  | inr l ↦ elim (cases_lt j k) [ inl l' ↦ omega (arith, ahead_straight q j k hj hk l, ahead_over q k j hk l') | inr l' ↦ absurd (apart (omega arith)) ]
-]
+use Rattle.algebra.specs.Scalars.{Scalar, root, minus, act, power, point, geometric}
+use Rattle.algebra.specs.Sharing.{less, inverse_above, inverse}
+use Rattle.algebra.proofs.Actions.{nil_add, undo, act_add, act_nil, act_comm, ring}
 
 module _ {M : Type 0} {O : ModuleOps M} {q : ℕ} (L : ModuleLaws O q) where
   open O use {nil, add, neg, shift}
@@ -74,22 +51,23 @@ module _ {M : Type 0} {O : ModuleOps M} {q : ℕ} (L : ModuleLaws O q) where
       let turns : d * e ≡ q * (d * e / q) + 1 = omega arith in
       point_geometric d e m ∙ ap (λ n. act O (point n) m) turns ∙ point_turns (d * e / q) 1 m ∙ one_more 0 m refl
 
-  -- so many whole turns more or less change nothing
-  pub point_mod : (n : ℕ) (m : M) → act O (point (n % q)) m ≡ act O (point n) m
-  point_mod n m = sym (point_turns (n / q) (n % q) m) ∙ ap (λ i. act O (point i) m) (div-add-mod n q)
-
-  -- the point k less the point j
-  pub less_ahead : (k j : ℕ) → k < q → j ≤ q → (m : M) → act O (less (point k) (point j)) m ≡ act O (power j) (act O (point (ahead q j k)) m)
-  less_ahead k j below h m =
-      let whole : j + (k + (q - j)) ≡ k + q = omega arith in
-      let round : (j + ahead q j k) % q ≡ k = add-mod-mod j (k + (q - j)) q ∙ ap (λ n. n % q) whole ∙ add-mod_right k q ∙ mod-eq_of_lt below in
-      let parts = ap (λ n. act O (point n) m) (sym round) ∙ point_mod (j + ahead q j k) m ∙ point_add j (ahead q j k) m in
+  pub less_above : (k j : ℕ) → j ≤ k → (m : M) → act O (less (point k) (point j)) m ≡ act O (power j) (act O (point (k - j)) m)
+  less_above k j h m =
+      let parts = ap (λ n. act O (point n) m) (sym (add-sub_of_le h)) ∙ point_add j (k - j) m in
       ap (λ s. add s (neg (act O (point j) m))) (parts ∙ L.add_comm _ _) ∙ undo L _ _
+
+  pub less_swap : (s t : Scalar) (m : M) → act O (less s t) (neg m) ≡ act O (less t s) m
+  less_swap s t m = simp (ring, L)
 
   -- inv d is what d is multiplied by to give one more than a multiple of q
   module _ (inv : ℕ → ℕ) (inverts : (d : ℕ) → 0 < d → d < q → (d * inv d) % q ≡ 1) where
+    above_unit : (k j : ℕ) → j < k → k < q → (m : M) → act O (less (point k) (point j)) (act O (inverse_above q inv k j) m) ≡ m
+    above_unit k j h below m =
+        let unit = point_unit (k - j) (inv (k - j)) (inverts (k - j) (omega arith) (omega arith)) m in
+        less_above k j (omega arith) _ ∙ ap (act O (power j)) (act_comm L (point (k - j)) (power (q - j)) _ ∙ ap (act O (power (q - j))) unit) ∙ power_unit j (omega arith) m
+
     pub unit : (k j : ℕ) → k < q → j < q → (k ≡ j → ⊥) → (m : M) → act O (less (point k) (point j)) (act O (inverse q inv k j) m) ≡ m
     unit k j k-below j-below apart m =
-        let d : ℕ = ahead q j k in
-        let one_way = point_unit d (inv d) (inverts d (ahead_some q j k j-below k-below apart) (mod-lt (k + (q - j)) (omega arith))) m in
-        less_ahead k j k-below (omega arith) _ ∙ ap (act O (power j)) (act_comm L (point d) (power (q - j)) _ ∙ ap (act O (power (q - j))) one_way) ∙ power_unit j (omega arith) m
+        cond_both (ltb j k) (inverse_above q inv k j) (minus (inverse_above q inv j k)) (λ s. act O (less (point k) (point j)) (act O s m) ≡ m)
+        (λ e. above_unit k j (ltb-true j k e) k-below m)
+        (λ e. let h : k ≤ j = ltb-false j k e in less_swap (point k) (point j) _ ∙ above_unit j k (omega arith) j-below m)

@@ -1,16 +1,20 @@
 -- A walk in steps of d places around a circle of q comes to every place, and writes a quotient there.
 use Rattle.std.proofs.Common.{◌≡◌, ℕ, zero, suc, ◌+◌, ◌-◌, ◌*◌, ◌%◌, ◌<◌, ◌≤◌, T, List, length, get_or, set, sym, ap, ◌∙◌, subst, ap₂, inl, inr, mod-lt, mod-eq_of_lt, mul_assoc, mul_comm, zero-mul, mul-one, arith}
-use native.Mathlib.Nat.{mod-add-mod, add-mod-mod, add-mod_right, zero-mod}
+use Rattle.std.proofs.Math.Nat.{mod-add-mod, add-mod-mod, add-mod_right, zero-mod}
 use Rattle.std.proofs.lemmas.List.{get_or_past, get_or-set_same, get_or-set_other, ext_get_or}
 use Rattle.std.proofs.lemmas.Bool.{cases_lt, cases_eq}
+use Rattle.std.proofs.lemmas.Nat.{mul-mod_first, mul-mod_second}
 use Rattle.algebra.specs.Circle.{ComesRound, around, Quotient}
 use Rattle.algebra.specs.Group.{GroupOps, GroupLaws}
 use Rattle.algebra.specs.Tuples.{all_valid, ok}
 use Rattle.algebra.specs.Space.{ok_valid}
-use Rattle.algebra.proofs.Congruences.{times_left, times_right}
 use Rattle.algebra.proofs.Around.{part_valid, taken_over}
 
 module _ (q d : ℕ) (some : 0 < q) where
+  -- before the first step
+  pub at_zero : q - 1 ≡ (q - 1 + 0 * d) % q
+  at_zero = sym (ap (λ z. z % q) (omega arith) ∙ mod-eq_of_lt (omega arith))
+
   -- a step more
   pub onward : (n to next : ℕ) → to ≡ (q - 1 + n * d) % q → next ≡ (to + d) % q → next ≡ (q - 1 + (n + 1) * d) % q
   onward n to next e f =
@@ -35,8 +39,8 @@ module _ (q d : ℕ) (some : 0 < q) where
           let whole : q - 1 + 1 ≡ 0 + q = omega arith in
           let none : (n * d) % q ≡ 0 =
           sym (ap (λ z. z % q) all ∙ add-mod_right (n * d) q) ∙ sym (mod-add-mod (q - 1 + n * d) q 1) ∙ ap (λ z. (z + 1) % q) top ∙ ap (λ z. z % q) whole ∙ add-mod_right 0 q ∙ zero-mod q in
-          let zero_times : (n * d * e) % q ≡ 0 = sym (times_left q (n * d) e) ∙ ap (λ z. (z * e) % q) none ∙ ap (λ z. z % q) (zero-mul e) ∙ zero-mod q in
-          let again : (n * d * e) % q ≡ n = ap (λ z. z % q) (mul_assoc n d e) ∙ sym (times_right q n (d * e)) ∙ ap (λ z. (n * z) % q) comes.1 ∙ ap (λ z. z % q) (mul-one n) ∙ mod-eq_of_lt h in
+          let zero_times : (n * d * e) % q ≡ 0 = sym (mul-mod_first (n * d) e q) ∙ ap (λ z. (z * e) % q) none ∙ ap (λ z. z % q) (zero-mul e) ∙ zero-mod q in
+          let again : (n * d * e) % q ≡ n = ap (λ z. z % q) (mul_assoc n d e) ∙ sym (mul-mod_second n (d * e) q) ∙ ap (λ z. (n * z) % q) comes.1 ∙ ap (λ z. z % q) (mul-one n) ∙ mod-eq_of_lt h in
           absurd (omega arith)
     ]
 
@@ -49,12 +53,11 @@ module _ (q d : ℕ) (some : 0 < q) where
         let n : ℕ = ((i + 1) * e) % q in
         let below : n < q = mod-lt ((i + 1) * e) some in
         let product : (n * d) % q ≡ (i + 1) % q =
-        times_left q ((i + 1) * e) d ∙ ap (λ z. z % q) (mul_assoc (i + 1) e d ∙ ap (λ z. (i + 1) * z) (mul_comm e d)) ∙ sym (times_right q (i + 1) (d * e)) ∙ ap (λ z. ((i + 1) * z) % q) comes.1 ∙ ap (λ z. z % q) (mul-one (i + 1)) in
+        mul-mod_first ((i + 1) * e) d q ∙ ap (λ z. z % q) (mul_assoc (i + 1) e d ∙ ap (λ z. (i + 1) * z) (mul_comm e d)) ∙ sym (mul-mod_second (i + 1) (d * e) q) ∙ ap (λ z. ((i + 1) * z) % q) comes.1 ∙ ap (λ z. z % q) (mul-one (i + 1)) in
         let whole : q - 1 + (i + 1) ≡ i + q = omega arith in
         let place : (q - 1 + n * d) % q ≡ i =
         sym (add-mod-mod (q - 1) (n * d) q) ∙ ap (λ z. (q - 1 + z) % q) product ∙ add-mod-mod (q - 1) (i + 1) q ∙ ap (λ z. z % q) whole ∙ add-mod_right i q ∙ mod-eq_of_lt (omega arith) in
-        let moved : (q - 1 + 0 * d) % q ≡ q - 1 = ap (λ z. z % q) (omega arith) ∙ mod-eq_of_lt (omega arith) in
-        (n, first n place moved, omega arith, place)
+        (n, first n place (sym at_zero), omega arith, place)
       where
         first : (n : ℕ) → (q - 1 + n * d) % q ≡ i → (q - 1 + 0 * d) % q ≡ q - 1 → 1 ≤ n
         first zero e f = absurd (omega arith)
@@ -68,8 +71,7 @@ module _ (q d : ℕ) (some : 0 < q) where
 
     pub walk_starts : (sum : C) (out : List C) → length r ≤ q - 1 → sum ≡ G.zero → Walked 0 sum out
     walk_starts sum out n e =
-        let place : (q - 1 + 0 * d) % q ≡ q - 1 = ap (λ z. z % q) (omega arith) ∙ mod-eq_of_lt (omega arith) in
-        (e ∙ sym (ap (λ z. get_or r z G.zero) place ∙ get_or_past r (q - 1) G.zero n), λ k l h. absurd (omega arith))
+        (e ∙ sym (ap (λ z. get_or r z G.zero) (sym at_zero) ∙ get_or_past r (q - 1) G.zero n), λ k l h. absurd (omega arith))
 
     -- what a step from u comes to
     pub walk_sum : (come gone : ℕ) (m : List C) (u : ℕ) (sum more less rest sum' : C)

@@ -1,10 +1,16 @@
 -- A circle of q places: the elements of a tuple, and one zero after them.
 use Rattle.std.specs.Prelude.{◌≡◌, ℕ, ◌+◌, ◌-◌, ◌*◌, ◌%◌, List, slice_index_or}
 use Rattle.algebra.specs.Group.{GroupOps}
+use Rattle.algebra.specs.Scalars.{Scalar, times, power, geometric}
 
 -- the way from the place i on to the place j
 abbrev pub ahead : ℕ → ℕ → ℕ → ℕ
 ahead q i j = (j + (q - i)) % q
+
+-- the inverse of the point k less the point j, for two distinct indices below q, by the way from j on to k: x^j times the point of that
+-- way is the difference
+abbrev pub inverse_around : ℕ → (ℕ → ℕ) → ℕ → ℕ → Scalar
+inverse_around q inv k j = times (power (q - j)) (geometric (ahead q j k) (inv (ahead q j k)))
 
 -- steps of d places come to every place: some number times d is one more than a multiple of q
 abbrev pub ComesRound : ℕ → ℕ → Type 0

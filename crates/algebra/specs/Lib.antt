@@ -1,7 +1,6 @@
 pub mod Group
 pub mod Module
 pub mod Scalars
-pub mod Circle
 pub mod Sharing
 pub mod Tuples
 pub mod Valid
@@ -10,3 +9,5 @@ pub mod Theorems
 pub mod Primes
 pub mod Rows
 pub mod Dealing
+pub mod Turns
+pub mod Circle

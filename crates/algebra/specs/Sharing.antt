@@ -1,16 +1,30 @@
 -- Polynomials over a module, and the scalars that interpolate them.
-use Rattle.std.specs.Prelude.{ℕ, zero, suc, ◌-◌, cond, List, [], ◌∷◌, ◌==◌}
-use Rattle.algebra.specs.Circle.{ahead}
+use Rattle.std.specs.Prelude.{ℕ, zero, suc, ◌-◌, cond, List, [], ◌∷◌, ◌==◌, nat_lt}
 use Rattle.algebra.specs.Module.{ModuleOps}
 use Rattle.algebra.specs.Scalars.{Scalar, one, plus, times, minus, act, power, geometric}
 
 abbrev pub less : Scalar → Scalar → Scalar
 less s t = plus s (minus t)
 
--- the inverse of the point k less the point j, for two distinct indices below q: x^j times the point d is that difference, where d is the
--- way from j on to k
+-- what is given of the point k less the point j where j < k, for any two indices
+abbrev pub across : (ℕ → ℕ → Scalar) → ℕ → ℕ → Scalar
+across X k j = cond (nat_lt j k) (X k j) (minus (X j k))
+
+-- the point k less the point j, for j < k: x^j times the first k - j powers
+abbrev pub difference_above : ℕ → ℕ → Scalar
+difference_above k j = times (power j) (geometric 1 (k - j))
+
+-- the point k less the point j
+abbrev pub difference : ℕ → ℕ → Scalar
+difference = across difference_above
+
+-- the inverse of the point k less the point j, for j < k ≤ q
+abbrev pub inverse_above : ℕ → (ℕ → ℕ) → ℕ → ℕ → Scalar
+inverse_above q inv k j = times (power (q - j)) (geometric (k - j) (inv (k - j)))
+
+-- the inverse of the point k less the point j, for any two distinct indices up to q
 abbrev pub inverse : ℕ → (ℕ → ℕ) → ℕ → ℕ → Scalar
-inverse q inv k j = times (power (q - j)) (geometric (ahead q j k) (inv (ahead q j k)))
+inverse q inv = across (inverse_above q inv)
 
 -- c0 + z c1 + z² c2 + …
 abbrev pub value : {M : Type 0} → ModuleOps M → List M → Scalar → M

@@ -51,7 +51,7 @@ impl<G: Group> Cabinet<G> {
         requires low { 1 ≤ holder }
         requires high { holder ≤ self.now.scheme.n }
         requires full { length shares.old ≡ self.now.scheme.n * (self.now.scheme.q - 1) }
-        requires room { length scratch.old ≡ 2 * (self.now.scheme.q - 1) }
+        requires room { length scratch.old ≡ 3 * (self.now.scheme.q - 1) }
         requires count { length coefficients.now ≡ (self.now.scheme.t - 1) * (self.now.scheme.q - 1) }
         ensures { MatchResult result (λ _. T (all_valid (G.ops self.now.group) shares.old) → T ((G.ops self.now.group).valid key) → T (all_valid (G.ops self.now.group) coefficients.now) → shares.new ≡ put_row (self.now.scheme.q - 1) (holder - 1) (credited (G.ops self.now.group) change (is_present self.now.ledger.holders holder) (dealt (G.ops self.now.group) (self.now.scheme.q - 1) holder key (self.now.scheme.t - 1) coefficients.now) (row_at (self.now.scheme.q - 1) (holder - 1) shares.old)) shares.old) (λ _. ⊥) }
     {
@@ -85,7 +85,7 @@ impl<G: Group> Cabinet<G> {
         ensures { MatchResult result (λ _. T (all_valid (G.ops self.now.group) shares.old) → T ((G.ops self.now.group).valid key) → T (all_valid (G.ops self.now.group) coefficients.now) → shares.new ≡ keyed_out (G.ops self.now.group) self.now.scheme change self.now.ledger.holders shares.old key coefficients.now) (λ _. ⊥) }
     {
         let n = self.scheme.n as u32;
-        let (scratch, _) = working.split_at_mut(2 * self.scheme.width());
+        let (_, scratch) = working.split_at_mut(self.scheme.width());
         for h in 0..n {
             self.deal_present(change, h + 1, key, coefficients, shares, scratch)?;
         }

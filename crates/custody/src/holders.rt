@@ -92,8 +92,7 @@ impl<G: Group> Cabinet<G> {
         self.check_repairing(holder, helpers, shares, working.len())?;
         let point = holder as usize;
         let width = self.scheme.width();
-        let (tuple, rest) = working.split_at_mut(width);
-        let (scratch, _) = rest.split_at_mut(2 * width);
+        let (tuple, scratch) = working.split_at_mut(width);
         tuple_at(
             &self.group,
             self.scheme,

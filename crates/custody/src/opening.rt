@@ -51,8 +51,7 @@ impl<G: Group> Cabinet<G> {
         ensures { step (G.ops self.now.group) self.now.scheme (state_of self.now shares.now) working.old (opening helpers.now) ≡ record { answer = answered key_is result; state = state_of self.now shares.now; working = working.new } }
     {
         self.check_opening(helpers, shares, working.len())?;
-        let (tuple, rest) = working.split_at_mut(self.scheme.width());
-        let (scratch, _) = rest.split_at_mut(2 * self.scheme.width());
+        let (tuple, scratch) = working.split_at_mut(self.scheme.width());
         tuple_at(&self.group, self.scheme, helpers, 0, shares, tuple, scratch)?;
         let key = read_key(&self.group, tuple);
         fill_zero(&self.group, working);

@@ -4,8 +4,7 @@ use Rattle.std.proofs.Common.{sym, ap, ◌∙◌, mod-lt, mod-eq_of_lt, mul_comm
 use Rattle.std.proofs.Math.Nat.{mod_self, mod-one, zero-mod, dvd_of_mod-eq-zero, mod-eq-zero_of_dvd, dvd-mod_iff, dvd_antisymm, dvd-mul_right_of_dvd, add-mul-mod_self_right}
 use Rattle.std.proofs.lemmas.Bool.{cond_both, eqb-true, eqb-false}
 use Rattle.groups.specs.Units.{Divides, Gcd, gcd_within, gcd}
-use Rattle.algebra.proofs.Congruences.{times_right}
-use Rattle.groups.specs.EuclidSteps.{step}
+use Rattle.groups.specs.Congruences.{times_right, step}
 
 pub gcd_end : (a b : ℕ) → b ≡ 0 → Gcd a b a
 gcd_end a b e = record {

@@ -9,5 +9,5 @@ pub mod Couples
 pub mod PairForms
 pub mod Modulo
 pub mod Multiples
+pub mod Congruences
 pub mod Divisors
-pub mod EuclidSteps

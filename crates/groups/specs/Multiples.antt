@@ -10,7 +10,7 @@ use Rattle.algebra.specs.Tuples.{both}
 use Rattle.algebra.specs.Valid.{both_left, both_right, both_of}
 use Rattle.algebra.proofs.TupleSums.{minus_unique}
 use Rattle.groups.specs.Units.{Combines, gcd, units}
-use Rattle.algebra.proofs.Congruences.{times_left, times_right, same_times}
+use Rattle.groups.specs.Congruences.{times_left, times_right, same_times}
 use Rattle.groups.specs.Divisors.{gcd_one, gcd_is, inverts, inverse_of, coprime_from}
 
 module _ (m : ℕ) (a : ℕ) where

@@ -1,10 +1,10 @@
--- The steps of the loops that search a tuple, and that multiply one by a scalar.
+-- The steps of the loop that searches a tuple, and what a scalar makes of one.
 use Rattle.std.proofs.Common.{◌≡◌, ℕ, ◌+◌, ◌-◌, ◌<◌, Bool, true, false, not, T, List, length, get_or, Some, sym, ap, ◌∙◌, subst}
 use Rattle.std.proofs.lemmas.List.{get_or_read}
 use Rattle.algebra.specs.Group.{GroupOps, GroupLaws}
 use Rattle.algebra.specs.Tuples.{all_valid, invalid_at, list_ops}
 use Rattle.algebra.specs.Space.{ok_length, ok_valid, ok_of}
-use Rattle.algebra.specs.Scalars.{Scalar, times, act}
+use Rattle.algebra.specs.Scalars.{Scalar, act}
 use Rattle.algebra.specs.Rows.{first_place}
 use Rattle.algebra.proofs.Places.{place_found, place_next}
 use Rattle.algebra.proofs.Dealings.{act_ok}
@@ -30,10 +30,3 @@ module _ {C : Type 0} (G : GroupOps C) (L : GroupLaws G) where
 
     pub act_length : (s : Scalar) → length (act (list_ops G w) s m) ≡ w
     act_length s = ok_length G w (act (list_ops G w) s m) (act_ok G L w s m (ok_of G w m n p))
-
-    -- first t, then s
-    pub chained : (s t : Scalar) (mid after : List C)
-        → mid ≡ act (list_ops G w) t m
-        → (T (all_valid G mid) → after ≡ act (list_ops G w) s mid)
-        → after ≡ act (list_ops G w) (times s t) m
-    chained s t mid after e f = f (as_valid mid (act (list_ops G w) t m) e (act_valid t)) ∙ ap (act (list_ops G w) s) e

@@ -44,7 +44,7 @@ module _ (s : Scheme) (hs : List ℕ) where
   -- memory and helpers from which a tuple is taken
   pub record Ready (shares scratch out : ℕ) : Type 0 where
     pub full : shares ≡ s.n * (s.q - 1)
-    pub room : scratch ≡ 2 * (s.q - 1)
+    pub room : scratch ≡ 3 * (s.q - 1)
     pub tuple : out ≡ s.q - 1
     pub helpers : Chosen
 
@@ -55,22 +55,22 @@ module _ (s : Scheme) (hs : List ℕ) where
       let c = first_none _ _ (verdict_ok (first (tuple_rows s out hs)) (sym f)) in
       record {
         full = length_none MemoryLength (s.n * (s.q - 1)) shares a.0;
-        room = length_none MemoryLength (2 * (s.q - 1)) scratch b.0;
+        room = length_none MemoryLength (3 * (s.q - 1)) scratch b.0;
         tuple = length_none MemoryLength (s.q - 1) out c.0;
         helpers = chosen c.1;
       }
 
   -- and the other way round: what is asked is not refused
-  pub takeable : (shares scratch out : ℕ) → shares ≡ s.n * (s.q - 1) → scratch ≡ 2 * (s.q - 1) → out ≡ s.q - 1 → first (helper_rows s hs) ≡ None
+  pub takeable : (shares scratch out : ℕ) → shares ≡ s.n * (s.q - 1) → scratch ≡ 3 * (s.q - 1) → out ≡ s.q - 1 → first (helper_rows s hs) ≡ None
       → first (length_rows s shares scratch ++ tuple_rows s out hs) ≡ None
   takeable shares scratch out a b c d =
       first_passes _ _ (length_fits MemoryLength (s.n * (s.q - 1)) shares a)
-      (first_passes _ _ (length_fits MemoryLength (2 * (s.q - 1)) scratch b) (first_passes _ _ (length_fits MemoryLength (s.q - 1) out c) d))
+      (first_passes _ _ (length_fits MemoryLength (3 * (s.q - 1)) scratch b) (first_passes _ _ (length_fits MemoryLength (s.q - 1) out c) d))
 
-pub dealable : (s : Scheme) (shares scratch count h : ℕ) → shares ≡ s.n * (s.q - 1) → scratch ≡ 2 * (s.q - 1) → count ≡ (s.t - 1) * (s.q - 1) → 1 ≤ h → h ≤ s.n
+pub dealable : (s : Scheme) (shares scratch count h : ℕ) → shares ≡ s.n * (s.q - 1) → scratch ≡ 3 * (s.q - 1) → count ≡ (s.t - 1) * (s.q - 1) → 1 ≤ h → h ≤ s.n
     → first (length_rows s shares scratch ++ dealing_rows s count h) ≡ None
 dealable s shares scratch count h a b c low high =
     first_passes _ _ (length_fits MemoryLength (s.n * (s.q - 1)) shares a)
-    (first_passes _ _ (length_fits MemoryLength (2 * (s.q - 1)) scratch b)
+    (first_passes _ _ (length_fits MemoryLength (3 * (s.q - 1)) scratch b)
     (first_passes _ _ (length_fits CoefficientCount ((s.t - 1) * (s.q - 1)) count c)
     (first_passes _ _ (row_passes (ltb h 1 || ltb s.n h) UnknownHolder (or_from (ltb h 1) (ltb s.n h) (le-ltb h 1 low) (le-ltb s.n h high))) refl)))

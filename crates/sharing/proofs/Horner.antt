@@ -77,16 +77,15 @@ module _ {C : Type 0} (G : GroupOps C) (L : GroupLaws G) where
         ∙ ap₂ (λ (a b : List C). tuple_plus G a (act O (point i) b)) (ec ∙ ef) is
         ∙ ap (λ (k : ℕ). value O (rows w k cs) (point i)) more
 
-    -- a share that is changed by the key and the point times the value of the coefficients
-    pub dealt_to : (n : ℕ) (d : Change) (k : C) (share known after : List C) → 0 < w → n * w ≤ length cs → T (G.valid k) → T (all_valid G share)
+    -- the key and the point times the value of the coefficients
+    pub dealt_from : (n : ℕ) (k : C) (known : List C) → 0 < w → n * w ≤ length cs → T (G.valid k)
         → known ≡ value (list_ops G w) (rows w n cs) (point i)
-        → (T (G.valid k) → T (all_valid G known) → T (all_valid G share) → after ≡ changed G d share (tuple_plus G (embedded G w k) (act (list_ops G w) (point i) known)))
-        → after ≡ changed G d share (dealt G w i k n cs)
-    dealt_to n d k share known after some enough vk vs is e =
-        let good : T (ok G w (value (list_ops G w) (rows w n cs) (point i))) = value_ok G L w (rows w n cs) (rows_ok G L w n cs enough valid) (point i) in
-        e vk (as_valid G L known _ is (ok_valid G w _ good)) vs
-        ∙ ap (λ (l : List C). changed G d share (tuple_plus G (embedded G w k) (act (list_ops G w) (point i) l))) is
-        ∙ ap (changed G d share) (sym (dealt_value G L w i n k cs some enough vk valid))
+        → T (all_valid G known) × (tuple_plus G (embedded G w k) (act (list_ops G w) (point i) known) ≡ dealt G w i k n cs)
+    dealt_from n k known some enough vk is =
+        let good : T (ok G w (value (list_ops G w) (rows w n cs) (point i))) = value_ok G L w (rows w n cs) (rows_ok G L w n cs enough valid) (point i) in (
+          as_valid G L known _ is (ok_valid G w _ good),
+          ap (λ (l : List C). tuple_plus G (embedded G w k) (act (list_ops G w) (point i) l)) is ∙ sym (dealt_value G L w i n k cs some enough vk valid),
+        )
 
 -- a loop that changes a tuple by the point i times m, from its first place on
 module _ {C : Type 0} (G : GroupOps C) (L : GroupLaws G) where

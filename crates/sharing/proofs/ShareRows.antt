@@ -10,18 +10,24 @@ use Rattle.algebra.specs.Dealing.{embedded, dealt}
 use Rattle.algebra.proofs.RowLists.{part_valid, part_row, put_part}
 use Rattle.sharing.specs.declared.shares.Change.{Change}
 use Rattle.sharing.specs.Shares.{changed}
-use Rattle.sharing.proofs.Horner.{dealt_to}
+use Rattle.sharing.proofs.Horner.{dealt_from}
 
--- what was dealt is added to a row, or taken from it
+module _ {C : Type 0} (G : GroupOps C) (d : Change) where
+  -- the share memory after a part of it was changed by a tuple
+  pub row_changed : (w h : ℕ) (xs tuple after : List C)
+      → (T (all_valid G (take (h * w + w - h * w) (drop (h * w) xs))) → after ≡ changed G d (take (h * w + w - h * w) (drop (h * w) xs)) tuple)
+      → T (all_valid G xs) → put_mid (h * w) (h * w + w - h * w) xs after ≡ put_row w h (changed G d (row_at w h xs) tuple) xs
+  row_changed w h xs tuple after e p =
+      put_part w (h * w) xs after
+      ∙ ap (λ (ys : List C). put_row w h ys xs) (e (part_valid G (h * w + w - h * w) (h * w) xs p) ∙ ap (λ (ys : List C). changed G d ys tuple) (part_row w (h * w) xs))
+
+-- what was dealt is added or taken away
 module _ {C : Type 0} (G : GroupOps C) (L : GroupLaws G) (d : Change) (w h i count : ℕ) (k : C) (cs xs : List C) where
   pub dealt_row : (known after : List C) → 0 < w → count * w ≤ length cs
       → (T (all_valid G cs) → known ≡ value (list_ops G w) (rows w count cs) (point i))
-      → (T (G.valid k) → T (all_valid G known) → T (all_valid G (take (h * w + w - h * w) (drop (h * w) xs)))
-      → after ≡ changed G d (take (h * w + w - h * w) (drop (h * w) xs)) (tuple_plus G (embedded G w k) (act (list_ops G w) (point i) known)))
+      → (T (all_valid G xs) → T (G.valid k) → T (all_valid G known) → after ≡ put_row w h (changed G d (row_at w h xs) (tuple_plus G (embedded G w k) (act (list_ops G w) (point i) known))) xs)
       → T (all_valid G xs) → T (G.valid k) → T (all_valid G cs)
-      → put_mid (h * w) (h * w + w - h * w) xs after ≡ put_row w h (changed G d (row_at w h xs) (dealt G w i k count cs)) xs
+      → after ≡ put_row w h (changed G d (row_at w h xs) (dealt G w i k count cs)) xs
   dealt_row known after wide full is change p vk v =
-      let row : List C = take (h * w + w - h * w) (drop (h * w) xs) in
-      put_part w (h * w) xs after
-      ∙ ap (λ (ys : List C). put_row w h ys xs)
-      (dealt_to G L w i cs v count d k row known after wide full vk (part_valid G (h * w + w - h * w) (h * w) xs p) (is v) change ∙ ap (λ (ys : List C). changed G d ys (dealt G w i k count cs)) (part_row w (h * w) xs))
+      let e = dealt_from G L w i cs v count k known wide full vk (is v) in
+      change p vk e.0 ∙ ap (λ (z : List C). put_row w h (changed G d (row_at w h xs) z) xs) e.1

@@ -1,9 +1,10 @@
 -- The tuple that some shares give at a point, from the last helper to the first.
-use Rattle.std.proofs.Common.{◌≡◌, ℕ, ◌+◌, ◌-◌, ◌*◌, ◌<◌, ◌≤◌, T, List, ◌∷◌, length, get_or, take, drop, sym, ap, ◌∙◌, ap₂, le_refl, arith}
+use Rattle.std.proofs.Common.{◌≡◌, ℕ, ◌+◌, ◌-◌, ◌*◌, ◌%◌, ◌<◌, ◌≤◌, T, List, ◌∷◌, length, get_or, take, drop, sym, ap, ◌∙◌, ap₂, le_refl, arith}
 use Rattle.std.proofs.lemmas.List.{drop_all, drop_more}
 use Rattle.algebra.specs.Group.{GroupOps, GroupLaws}
 use Rattle.algebra.specs.Tuples.{all_valid, tuple_zero, tuple_plus, list_ops}
 use Rattle.algebra.specs.Valid.{zero_tuple_valid, plus_tuple_valid}
+use Rattle.algebra.specs.Space.{ok_of}
 use Rattle.algebra.specs.Scalars.{act}
 use Rattle.algebra.specs.Sharing.{total}
 use Rattle.algebra.specs.Rows.{row_at}
@@ -11,6 +12,7 @@ use Rattle.algebra.specs.Dealing.{weight_at, tuple_at}
 use Rattle.algebra.proofs.TupleSums.{tuple_comm}
 use Rattle.algebra.proofs.RowLists.{part_row, part_valid}
 use Rattle.sharing.proofs.Acting.{as_valid, act_valid}
+use Rattle.sharing.proofs.Weights.{weight_turned}
 
 -- what the helper j adds, and the sum over the helpers from i on
 abbrev pub part_at : {C : Type 0} → GroupOps C → ℕ → List ℕ → ℕ → List C → ℕ → List C
@@ -26,24 +28,26 @@ module _ {C : Type 0} (G : GroupOps C) (L : GroupLaws G) (q : ℕ) (hs : List �
     as_valid G L out (tuple_zero G m) e (zero_tuple_valid G L m),
   )
 
-  pub sum_step : (i a : ℕ) (out copied weighted after : List C) → 0 < i → i ≤ length hs
+  -- the share m of one helper, weighted for a point as many whole turns away
+  pub sum_step : (i a : ℕ) (out weighted after : List C) → let m : List C = take (a + (q - 1) - a) (drop a shares) in 2 ≤ q → 0 < i → i ≤ length hs
       → a ≡ (get_or hs (i - 1) 0 - 1) * (q - 1)
-      → length copied ≡ q - 1
-      → copied ≡ take (a + (q - 1) - a) (drop a shares)
-      → (T (all_valid G copied) → weighted ≡ act (list_ops G (q - 1)) (weight_at q hs p (get_or hs (i - 1) 0)) copied)
+      → length m ≡ q - 1
+      → (T (all_valid G m) → weighted ≡ act (list_ops G (q - 1)) (weight_at q hs (p % q) (get_or hs (i - 1) 0)) m)
       → (T (all_valid G out) → T (all_valid G weighted) → after ≡ tuple_plus G out weighted)
       → T (all_valid G shares) → (out ≡ sum_from G q hs p shares i) × T (all_valid G out)
       → (after ≡ sum_from G q hs p shares (i - 1)) × T (all_valid G after)
-  sum_step i a out copied weighted after some l ea n c f add v inv =
+  sum_step i a out weighted after two some l ea n f add v inv =
       let w : ℕ = q - 1 in
+      let m : List C = take (a + w - a) (drop a shares) in
       let j : ℕ = get_or hs (i - 1) 0 in
       let h : i - 1 < length hs = omega arith in
       let s : i - 1 + 1 ≡ i = omega arith in
       let d : drop (i - 1) hs ≡ j ∷ drop i hs = drop_more hs (i - 1) 0 h ∙ ap (λ (b : ℕ). j ∷ drop b hs) s in
-      let vc : T (all_valid G copied) = as_valid G L copied (take (a + w - a) (drop a shares)) c (part_valid G (a + w - a) a shares v) in
-      let r : copied ≡ row_at w (j - 1) shares = c ∙ part_row w a shares ∙ ap (λ (b : ℕ). take w (drop b shares)) ea in
-      let t : weighted ≡ part_at G q hs p shares j = f vc ∙ ap (act (list_ops G w) (weight_at q hs p j)) r in
-      let vw : T (all_valid G weighted) = as_valid G L weighted (act (list_ops G w) (weight_at q hs p j) copied) (f vc) (act_valid G L w copied n vc (weight_at q hs p j)) in
+      let vm : T (all_valid G m) = part_valid G (a + w - a) a shares v in
+      let r : m ≡ row_at w (j - 1) shares = part_row w a shares ∙ ap (λ (b : ℕ). take w (drop b shares)) ea in
+      let e : weighted ≡ act (list_ops G w) (weight_at q hs p j) m = f vm ∙ weight_turned G L q p j two hs m (ok_of G w m n vm) in
+      let t : weighted ≡ part_at G q hs p shares j = e ∙ ap (act (list_ops G w) (weight_at q hs p j)) r in
+      let vw : T (all_valid G weighted) = as_valid G L weighted (act (list_ops G w) (weight_at q hs p j) m) e (act_valid G L w m n vm (weight_at q hs p j)) in
       let u : after ≡ tuple_plus G out weighted = add inv.1 vw in (
         u ∙ tuple_comm G L out weighted inv.1 vw ∙ ap₂ (tuple_plus G) t inv.0 ∙ sym (ap (total (list_ops G w) (part_at G q hs p shares)) d),
         as_valid G L after (tuple_plus G out weighted) u (plus_tuple_valid G L out weighted inv.1 vw),

@@ -13,11 +13,12 @@ use Rattle.sharing.specs.declared.shares.Change.TheVariants.{Add, Subtract}
 use Rattle.sharing.specs.Verdicts.{row, length_row}
 use Rattle.sharing.specs.Helpers.{helper_rows}
 
--- an element with another added to it, or taken from it; and so of tuples
+-- an element with another added to it, or taken from it
 abbrev pub changed_element : {C : Type 0} → GroupOps C → Change → C → C → C
 changed_element G Add a b = G.plus a b
 changed_element G Subtract a b = G.plus a (G.minus b)
 
+-- a share with a tuple added to it, or taken from it
 abbrev pub changed : {C : Type 0} → GroupOps C → Change → List C → List C → List C
 changed G Add r ys = tuple_plus G r ys
 changed G Subtract r ys = tuple_less G r ys
@@ -27,9 +28,9 @@ abbrev pub holder_row : Scheme → ℕ → Option CabinetFault
 holder_row s h = row (nat_lt h 1 || nat_lt s.n h) UnknownHolder
 
 module _ (s : Scheme) where
-  -- the lengths of the share memory and of two tuples of scratch memory
+  -- the lengths of the share memory and of three tuples of scratch memory
   abbrev pub length_rows : ℕ → ℕ → List (Option CabinetFault)
-  length_rows shares scratch = length_row MemoryLength (s.n * (s.q - 1)) shares ∷ length_row MemoryLength (2 * (s.q - 1)) scratch ∷ []
+  length_rows shares scratch = length_row MemoryLength (s.n * (s.q - 1)) shares ∷ length_row MemoryLength (3 * (s.q - 1)) scratch ∷ []
 
   -- the number of coefficients, and the holder
   abbrev pub dealing_rows : ℕ → ℕ → List (Option CabinetFault)

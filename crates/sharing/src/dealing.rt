@@ -9,7 +9,7 @@ ghost use Rattle.sharing.specs.Shares.{changed};
 
 use crate::points::{change_element, change_point, mul_weight};
 use crate::shares::Change;
-use crate::tuples::{add_one_into, fill_zero};
+use crate::tuples::{add_into, fill_zero};
 use groups::group::Group;
 
 // Writes c1 + a c2 + a^2 c3 + .. to `out`, by way of `other`, where a is the point i and c1, c2, ..
@@ -86,12 +86,13 @@ pub(crate) fn interpolate<G: Group>(
     ensures { T (all_valid (G.ops g.now) shares.now) → out.new ≡ tuple_at (G.ops g.now) q helpers.now p shares.now }
 {
     let width = q - 1;
+    let turned = p % q;
     fill_zero(g, out);
     for i in (0..helpers.len()).rev() {
         let j = helpers[i] as usize;
         let a = (j - 1) * width;
-        term.copy_from_slice(&shares[a..a + width]);
-        let over = mul_weight(g, q, helpers, p, j, term, other);
-        add_one_into(g, out, over, term, other);
+        let share = &shares[a..a + width];
+        mul_weight(g, q, helpers, turned, j, share, term, other);
+        add_into(g, out, term);
     }
 }

@@ -1,9 +1,8 @@
-ghost use Rattle.std.specs.Prelude.{◌≡◌, ℕ, ◌+◌, ◌-◌, ◌%◌, ◌<◌, ◌≤◌, T, List, length, if◌then◌else◌, slice_index, slice_index_or};
+ghost use Rattle.std.specs.Prelude.{◌≡◌, ℕ, ◌+◌, ◌-◌, ◌%◌, ◌<◌, ◌≤◌, T, List, length, slice_index, slice_index_or};
 ghost use Rattle.algebra.specs.Circle.{ahead, ComesRound, Quotient};
 ghost use Rattle.algebra.specs.Dealing.{weight_at};
-ghost use Rattle.algebra.specs.Primes.{OddPrime, inverse_number};
+ghost use Rattle.algebra.specs.Primes.{OddPrime};
 ghost use Rattle.algebra.specs.Scalars.{act, point};
-ghost use Rattle.algebra.specs.Sharing.{inverse, factor};
 ghost use Rattle.algebra.specs.Tuples.{all_valid, ok, list_ops};
 ghost use Rattle.sharing.specs.Shares.{changed_element, changed};
 
@@ -122,64 +121,36 @@ pub(crate) fn change_point<G: Group>(
     }
 }
 
-// Multiplies the tuple in `a`, or in `b` where `over`, by k's part in the weight of j at the point p,
-// into the other one of them. Answers whether it is in `b` now.
-fn mul_factor<G: Group>(
-    g: &G,
-    q: usize,
-    k: usize,
-    p: usize,
-    j: usize,
-    over: bool,
-    a: &mut [G::Element],
-    b: &mut [G::Element],
-) -> bool
-    requires prime { OddPrime q }
-    requires small { q ≤ 31 }
-    requires k { k < q }
-    requires p { p < q }
-    requires j { j < q }
-    requires a { length a.old ≡ q - 1 }
-    requires b { length b.old ≡ q - 1 }
-    ensures { T (all_valid (G.ops g.now) (if over then b.old else a.old)) → (if result then b.new else a.new) ≡ act (list_ops (G.ops g.now) (q - 1)) (factor point (inverse q (inverse_number q)) (point p) j k) (if over then b.old else a.old) }
-{
-    if k == j {
-        return over;
-    }
-    let d = way(q, j, k);
-    let come = way(q, p, j);
-    if over {
-        mul_quotient(g, q, d, come, b, a);
-        return false;
-    }
-    mul_quotient(g, q, d, come, a, b);
-    true
-}
-
-// Multiplies the tuple in `a` by the weight of j among the helpers at the point p, by way of `b`.
-// Answers whether the product is in `b`.
+// Writes the weight of j among the helpers at the point p times `m` to `out`, by way of `other`.
 pub(crate) fn mul_weight<G: Group>(
     g: &G,
     q: usize,
     helpers: &[u32],
     p: usize,
     j: usize,
-    a: &mut [G::Element],
-    b: &mut [G::Element],
-) -> bool
+    m: &[G::Element],
+    out: &mut [G::Element],
+    other: &mut [G::Element],
+)
     requires prime { OddPrime q }
     requires small { q ≤ 31 }
     requires helpers { (i : ℕ) → i < length helpers.now → slice_index helpers.now i < q }
+    requires p { p < q }
     requires j { j < q }
-    requires a { length a.old ≡ q - 1 }
-    requires b { length b.old ≡ q - 1 }
-    ensures { T (all_valid (G.ops g.now) a.old) → (if result then b.new else a.new) ≡ act (list_ops (G.ops g.now) (q - 1)) (weight_at q helpers.now p j) a.old }
+    requires m { length m.now ≡ q - 1 }
+    requires out { length out.old ≡ q - 1 }
+    requires other { length other.old ≡ q - 1 }
+    ensures { T (all_valid (G.ops g.now) m.now) → out.new ≡ act (list_ops (G.ops g.now) (q - 1)) (weight_at q helpers.now p j) m.now }
 {
-    let turned = p % q;
-    let mut over = false;
-    for i in (0..helpers.len()).rev() {
-        let k = helpers[i] as usize;
-        over = mul_factor(g, q, k, turned, j, over, a, b);
+    let Some((k, rest)) = helpers.split_first() else {
+        out.copy_from_slice(m);
+        return;
+    };
+    let k = *k as usize;
+    if k == j {
+        mul_weight(g, q, rest, p, j, m, out, other);
+        return;
     }
-    over
+    mul_weight(g, q, rest, p, j, m, other, out);
+    mul_quotient(g, q, way(q, j, k), way(q, p, j), other, out);
 }

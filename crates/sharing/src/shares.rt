@@ -1,7 +1,8 @@
 ghost use Rattle.std.specs.Prelude.{◌≡◌, ℕ, ◌+◌, ◌-◌, ◌*◌, ◌<◌, ◌≤◌, T, ◌++◌, length, MatchResult, OnOk, slice_index};
-ghost use Rattle.algebra.specs.Tuples.{all_valid};
+ghost use Rattle.algebra.specs.Scalars.{act, point};
+ghost use Rattle.algebra.specs.Tuples.{all_valid, tuple_plus, list_ops};
 ghost use Rattle.algebra.specs.Rows.{row_at, put_row};
-ghost use Rattle.algebra.specs.Dealing.{dealt, tuple_at};
+ghost use Rattle.algebra.specs.Dealing.{embedded, dealt, tuple_at};
 ghost use Rattle.sharing.specs.Verdicts.{first, verdict};
 ghost use Rattle.sharing.specs.Shares.{changed, length_rows, dealing_rows, tuple_rows, Interpolated};
 
@@ -25,8 +26,8 @@ fn check_lengths(scheme: Scheme, shares: usize, scratch: usize) -> Result<(), Ca
     if shares != scheme.share_length() {
         return Err(CabinetFault::MemoryLength(scheme.share_length()));
     }
-    if scratch != 2 * scheme.width() {
-        return Err(CabinetFault::MemoryLength(2 * scheme.width()));
+    if scratch != 3 * scheme.width() {
+        return Err(CabinetFault::MemoryLength(3 * scheme.width()));
     }
     Ok(())
 }
@@ -51,8 +52,29 @@ fn check_tuple(scheme: Scheme, out: usize, helpers: &[u32]) -> Result<(), Cabine
     check_helpers(scheme, helpers)
 }
 
-// Adds to the row h of the share memory what its holder is dealt, or takes that from it, and leaves
-// the other rows.
+// Adds a key and the point h + 1 times `value` to the row h of the share memory, or takes them from
+// that row, and leaves the other rows.
+fn change_row<G: Group>(
+    group: &G,
+    scheme: Scheme,
+    change: Change,
+    h: usize,
+    key: G::Element,
+    value: &[G::Element],
+    shares: &mut [G::Element],
+)
+    requires known { h < scheme.n }
+    requires full { length shares.old ≡ scheme.n * (scheme.q - 1) }
+    requires value { length value.now ≡ scheme.q - 1 }
+    ensures { T (all_valid (G.ops group.now) shares.old) → T ((G.ops group.now).valid key) → T (all_valid (G.ops group.now) value.now) → shares.new ≡ put_row (scheme.q - 1) h (changed (G.ops group.now) change (row_at (scheme.q - 1) h shares.old) (tuple_plus (G.ops group.now) (embedded (G.ops group.now) (scheme.q - 1) key) (act (list_ops (G.ops group.now) (scheme.q - 1)) (point (h + 1)) value.now))) shares.old }
+{
+    let width = scheme.q - 1;
+    let start = h * width;
+    let share = &mut shares[start..start + width];
+    change_share(group, change, scheme.q, h + 1, key, value, share);
+}
+
+// Adds to the row h of the share memory what its holder is dealt, or takes that from it.
 fn deal_row<G: Group>(
     group: &G,
     scheme: Scheme,
@@ -65,18 +87,16 @@ fn deal_row<G: Group>(
 )
     requires known { h < scheme.n }
     requires full { length shares.old ≡ scheme.n * (scheme.q - 1) }
-    requires room { length scratch.old ≡ 2 * (scheme.q - 1) }
+    requires room { length scratch.old ≡ 3 * (scheme.q - 1) }
     requires count { length coefficients.now ≡ (scheme.t - 1) * (scheme.q - 1) }
     ensures { T (all_valid (G.ops group.now) shares.old) → T ((G.ops group.now).valid key) → T (all_valid (G.ops group.now) coefficients.now) → shares.new ≡ put_row (scheme.q - 1) h (changed (G.ops group.now) change (row_at (scheme.q - 1) h shares.old) (dealt (G.ops group.now) (scheme.q - 1) (h + 1) key (scheme.t - 1) coefficients.now)) shares.old }
 {
-    let q = scheme.q;
-    let width = q - 1;
+    let width = scheme.q - 1;
     let count = scheme.t - 1;
-    let (value, other) = scratch.split_at_mut(width);
-    evaluate(group, q, h + 1, coefficients, count, value, other);
-    let start = h * width;
-    let share = &mut shares[start..start + width];
-    change_share(group, change, q, h + 1, key, value, share);
+    let (value, rest) = scratch.split_at_mut(width);
+    let (other, _) = rest.split_at_mut(width);
+    evaluate(group, scheme.q, h + 1, coefficients, count, value, other);
+    change_row(group, scheme, change, h, key, value, shares);
 }
 
 // Adds to a holder's share what dealing the key with these coefficients gives that holder, or takes
@@ -118,11 +138,12 @@ fn write_tuple<G: Group>(
     requires known { (i : ℕ) → i < length helpers.now → (1 ≤ slice_index helpers.now i) × (slice_index helpers.now i ≤ scheme.n) }
     requires full { length shares.now ≡ scheme.n * (scheme.q - 1) }
     requires tuple { length out.old ≡ scheme.q - 1 }
-    requires room { length scratch.old ≡ 2 * (scheme.q - 1) }
+    requires room { length scratch.old ≡ 3 * (scheme.q - 1) }
     ensures { T (all_valid (G.ops group.now) shares.now) → out.new ≡ tuple_at (G.ops group.now) scheme.q helpers.now point shares.now }
 {
     let width = scheme.q - 1;
-    let (term, other) = scratch.split_at_mut(width);
+    let (term, rest) = scratch.split_at_mut(width);
+    let (other, _) = rest.split_at_mut(width);
     interpolate(group, scheme.q, helpers, point, shares, out, term, other);
 }
 

@@ -1,4 +1,4 @@
-ghost use Rattle.std.specs.Prelude.{◌≡◌, T, length, if◌then◌else◌};
+ghost use Rattle.std.specs.Prelude.{◌≡◌, T, length};
 ghost use Rattle.algebra.specs.Rows.{first_place};
 ghost use Rattle.algebra.specs.Tuples.{all_valid, invalid_at, tuple_zero, tuple_plus};
 
@@ -27,30 +27,11 @@ pub fn first_invalid<G: Group>(g: &G, xs: &[G::Element]) -> Option<usize>
 }
 
 // Adds `from` to `to`.
-fn add_into<G: Group>(g: &G, to: &mut [G::Element], from: &[G::Element])
+pub(crate) fn add_into<G: Group>(g: &G, to: &mut [G::Element], from: &[G::Element])
     requires { length from.now ≡ length to.old }
     ensures { T (all_valid (G.ops g.now) to.old) → T (all_valid (G.ops g.now) from.now) → to.new ≡ tuple_plus (G.ops g.now) to.old from.now }
 {
     for i in 0..to.len() {
         to[i] = g.sum(to[i], from[i]);
-    }
-}
-
-// Adds `a` to `to`, or `b` where `over`.
-pub(crate) fn add_one_into<G: Group>(
-    g: &G,
-    to: &mut [G::Element],
-    over: bool,
-    a: &[G::Element],
-    b: &[G::Element],
-)
-    requires a { length a.now ≡ length to.old }
-    requires b { length b.now ≡ length to.old }
-    ensures { T (all_valid (G.ops g.now) to.old) → T (all_valid (G.ops g.now) (if over then b.now else a.now)) → to.new ≡ tuple_plus (G.ops g.now) to.old (if over then b.now else a.now) }
-{
-    if over {
-        add_into(g, to, b);
-    } else {
-        add_into(g, to, a);
     }
 }

@@ -1,5 +1,5 @@
 use Rattle.std.proofs.Common.{◌≡◌, ℕ, ◌+◌, ◌-◌, ◌*◌, ◌/◌, ◌%◌, ◌<◌, ap, mod-lt, arith}
-use Rattle.groups.specs.EuclidSteps.{step}
+use Rattle.groups.specs.Congruences.{step}
 use Rattle.groups.specs.Divisors.{gcd_end, gcd_more}
 use Rattle.groups.proofs.units.+euclid.Goals as goal
 

@@ -1,16 +1,15 @@
-use Rattle.std.proofs.Common.{◌≡◌, ◌+◌, ◌-◌, ◌*◌, ◌%◌, ◌<◌, get_or, sym, ap, ◌∙◌, mod-eq_of_lt, arith}
+use Rattle.std.proofs.Common.{◌≡◌, ◌+◌, ◌-◌, ◌*◌, ◌%◌, ◌<◌, get_or, sym, ap, ◌∙◌, arith}
 use Rattle.std.proofs.lemmas.List.{get_or_read, get_or_past}
 use Rattle.algebra.specs.Space.{ok_length}
-use Rattle.algebra.proofs.Walks.{onward, stepped_back, next_lands, walk_starts, walk_step, walk_ends}
+use Rattle.algebra.proofs.Walks.{at_zero, onward, stepped_back, next_lands, walk_starts, walk_step, walk_ends}
 use Rattle.sharing.proofs.points.mul_quotient.Goals as goal
 
 pub loop-done-init : goal.loop-done-init
 loop-done-init g c =
     let q = c.args.q in
     let d = c.args.d in
-    let G = g.G.Group.ops c.args.g.now in
-    let start : q - 1 + 0 * d ≡ q - 1 = omega arith in (
-      sym (ap (λ z. z % q) start ∙ mod-eq_of_lt (omega arith)),
+    let G = g.G.Group.ops c.args.g.now in (
+      at_zero q d (omega arith),
       c.zero-less.ensures ∙ sym (get_or_past c.args.m.now (q - 1) G.zero (omega arith)),
       λ v some r h Q. walk_starts q d some G (g.met.G.Group.laws c.args.g.now) r c.zero-sum.result c.args.out.now (omega (arith, ok_length G (q - 1) r h)) c.zero-sum.ensures,
     )

@@ -1,13 +1,6 @@
-use Rattle.std.proofs.Common.{◌+◌, ◌-◌, ◌*◌, ◌<◌, ◌≤◌, length, arith, rules}
-use Rattle.algebra.proofs.RowLists.{row_end}
+use Rattle.std.proofs.Common.{◌+◌, ◌-◌, ◌*◌, ◌<◌, ◌≤◌, length, arith}
 use Rattle.sharing.proofs.ShareRows.{dealt_row}
 use Rattle.sharing.proofs.shares.deal_row.Goals as goal
-
-pub offset_bounds-shares-start : goal.offset_bounds-shares-start
-offset_bounds-shares-start g c = let e = row_end c.args.h c.args.scheme.n (c.args.scheme.q - 1) c.requires.known in search rules
-
-pub slice_bounds-share-end : goal.slice_bounds-share-end
-slice_bounds-share-end g c = let e = row_end c.args.h c.args.scheme.n (c.args.scheme.q - 1) c.requires.known in search rules
 
 pub returns : goal.returns
 returns g c =
@@ -15,4 +8,4 @@ returns g c =
     let wide : 0 < s.q - 1 = omega (arith, s.above, s.allowed) in
     let full : (s.t - 1) * (s.q - 1) ≤ length c.args.coefficients.now = omega arith in
     dealt_row (g.G.Group.ops c.args.group.now) (g.met.G.Group.laws c.args.group.now) c.args.change (s.q - 1) c.args.h (c.args.h + 1) (s.t - 1) c.args.key
-    c.args.coefficients.now c.args.shares.now c.evaluate.new.out c.change_share.new.share wide full c.evaluate.ensures c.change_share.ensures
+    c.args.coefficients.now c.args.shares.now c.evaluate.new.out c.change_row.new.shares wide full c.evaluate.ensures c.change_row.ensures
