@@ -1,23 +1,10 @@
--- The steps of the loop that searches a tuple, and what a scalar makes of one.
-use Rattle.std.proofs.Common.{◌≡◌, ℕ, ◌+◌, ◌-◌, ◌<◌, Bool, true, false, not, T, List, length, get_or, Some, sym, ap, ◌∙◌, subst}
-use Rattle.std.proofs.lemmas.List.{get_or_read}
+-- What a scalar makes of a tuple.
+use Rattle.std.proofs.Common.{◌≡◌, ℕ, T, List, length, sym, subst}
 use Rattle.algebra.specs.Group.{GroupOps, GroupLaws}
-use Rattle.algebra.specs.Tuples.{all_valid, invalid_at, list_ops}
+use Rattle.algebra.specs.Tuples.{all_valid, list_ops}
 use Rattle.algebra.specs.Space.{ok_length, ok_valid, ok_of}
 use Rattle.algebra.specs.Scalars.{Scalar, act}
-use Rattle.algebra.specs.Rows.{first_place}
-use Rattle.algebra.proofs.Places.{place_found, place_next}
 use Rattle.algebra.proofs.Dealings.{act_ok}
-
-module _ {C : Type 0} (G : GroupOps C) (xs : List C) (i : ℕ) (x : C) (h : i < length xs) (r : x ≡ get_or xs i x) where
-  invalid_is : (b : Bool) → b ≡ G.valid x → invalid_at G xs i ≡ not b
-  invalid_is b e = ap not (ap G.valid (sym (get_or_read xs i x h r G.zero)) ∙ sym e)
-
-  pub invalid_found : false ≡ G.valid x → first_place (invalid_at G xs) i (length xs - i) ≡ first_place (invalid_at G xs) 0 (length xs) → Some i ≡ first_place (invalid_at G xs) 0 (length xs)
-  invalid_found e inv = place_found (invalid_at G xs) i (length xs) h (invalid_is false e) inv
-
-  pub invalid_passed : true ≡ G.valid x → first_place (invalid_at G xs) i (length xs - i) ≡ first_place (invalid_at G xs) 0 (length xs) → first_place (invalid_at G xs) (i + 1) (length xs - (i + 1)) ≡ first_place (invalid_at G xs) 0 (length xs)
-  invalid_passed e inv = place_next (invalid_at G xs) i (length xs) h (invalid_is true e) inv
 
 module _ {C : Type 0} (G : GroupOps C) (L : GroupLaws G) where
   pub as_valid : (xs ys : List C) → xs ≡ ys → T (all_valid G ys) → T (all_valid G xs)

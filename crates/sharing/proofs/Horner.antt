@@ -1,6 +1,8 @@
 -- What a holder is dealt, as the code computes it.
-use Rattle.std.proofs.Common.{◌≡◌, ℕ, suc, ◌+◌, ◌-◌, ◌*◌, ◌%◌, ◌<◌, ◌≤◌, T, List, [], ◌∷◌, length, get_or, take, drop, set, sym, refl, ap, ◌∙◌, subst, ap₂, mod-eq_of_lt, suc-mul, arith}
-use native.Mathlib.Nat.{add-mod_right}
+use Rattle.std.proofs.Common.{◌≡◌, ℕ, suc, ◌+◌, ◌-◌, ◌*◌, ◌/◌, ◌%◌, ◌<◌, ◌≤◌, T, List, [], ◌∷◌, length, get_or, take, drop, set, sym, refl, ap, ◌∙◌, subst, ap₂, inl, inr, mod-eq_of_lt, suc-mul, arith}
+use Rattle.std.proofs.Math.Nat.{add-mod_right, add-div_right}
+use Rattle.std.proofs.lemmas.Nat.{div-add-mod'}
+use Rattle.std.proofs.lemmas.Bool.{cases_lt}
 use Rattle.std.proofs.lemmas.List.{length-take-le, length-drop, get_or_read, get_or_past, get_or_default}
 use Rattle.algebra.specs.Circle.{around}
 use Rattle.algebra.specs.Group.{GroupOps, GroupLaws}
@@ -21,6 +23,20 @@ use Rattle.sharing.specs.declared.shares.Change.{Change}
 use Rattle.sharing.specs.declared.shares.Change.TheVariants.{Add, Subtract}
 use Rattle.sharing.specs.Shares.{changed_element, changed}
 use Rattle.sharing.proofs.Acting.{as_valid}
+
+-- a elements are whole rows of w, and b are left after the first row
+module _ (w a b : ℕ) (wide : 0 < w) (split : b + w ≡ a) where
+  pub rows_less : a / w ≡ b / w + 1
+  rows_less = ap (λ (z : ℕ). z / w) (sym split) ∙ add-div_right b wide
+
+  pub rest_whole : a % w ≡ 0 → b % w ≡ 0
+  rest_whole e = sym (add-mod_right b w) ∙ ap (λ (z : ℕ). z % w) split ∙ e
+
+  pub rest_long : a % w ≡ 0 → (b ≡ 0 → ⊥) → w ≤ b
+  rest_long e some = elim (cases_lt b w) [ inl l ↦ absurd (some (sym (mod-eq_of_lt l) ∙ rest_whole e)) | inr l ↦ l ]
+
+pub rows_within : (w a : ℕ) → a / w * w ≤ a
+rows_within w a = omega (arith, div-add-mod' a w)
 
 module _ {C : Type 0} (G : GroupOps C) (L : GroupLaws G) where
   -- a tuple that was changed by ys, and then its first element by a key
@@ -58,24 +74,23 @@ module _ {C : Type 0} (G : GroupOps C) (L : GroupLaws G) where
         ∙ ap (λ (k : ℕ). value (list_ops G w) (rows w k cs) (point i)) (sym one)
 
     -- the first one, and the point times the value of those after it
-    pub value_more : (n : ℕ) (first rest inner copied after : List C) → 1 ≤ n → n * w ≤ length cs → first ≡ take w cs → rest ≡ drop w cs
-        → (T (all_valid G rest) → inner ≡ value (list_ops G w) (rows w (n - 1) rest) (point i))
+    pub value_more : (n k : ℕ) (first rest inner copied after : List C) → n ≡ k + 1 → n * w ≤ length cs → first ≡ take w cs → rest ≡ drop w cs
+        → (T (all_valid G rest) → inner ≡ value (list_ops G w) (rows w k rest) (point i))
         → copied ≡ first
         → (T (all_valid G inner) → T (all_valid G copied) → after ≡ tuple_plus G copied (act (list_ops G w) (point i) inner))
         → after ≡ value (list_ops G w) (rows w n cs) (point i)
-    value_more n first rest inner copied after some enough ef er value_of_lem ec add =
+    value_more n k first rest inner copied after count enough ef er value_of_lem ec add =
         let O = list_ops G w in
-        let m : ℕ = n - 1 in
-        let more : suc m ≡ n = omega arith in
+        let more : suc k ≡ n = omega arith in
         let vc : T (all_valid G copied) = as_valid G L copied (take w cs) (ec ∙ ef) (take_valid G w cs valid) in
         let vr : T (all_valid G rest) = as_valid G L rest (drop w cs) er (drop_valid G w cs valid) in
-        let left : m * w ≤ length (drop w cs) = omega (arith, suc-mul m w, ap (λ (k : ℕ). k * w) more, length-drop w cs) in
-        let is : inner ≡ value O (rows w m (drop w cs)) (point i) = value_of_lem vr ∙ ap (λ (l : List C). value O (rows w m l) (point i)) er in
-        let good : T (ok G w (value O (rows w m (drop w cs)) (point i))) = value_ok G L w (rows w m (drop w cs)) (rows_ok G L w m (drop w cs) left (drop_valid G w cs valid)) (point i) in
+        let left : k * w ≤ length (drop w cs) = omega (arith, suc-mul k w, ap (λ (a : ℕ). a * w) more, length-drop w cs) in
+        let is : inner ≡ value O (rows w k (drop w cs)) (point i) = value_of_lem vr ∙ ap (λ (l : List C). value O (rows w k l) (point i)) er in
+        let good : T (ok G w (value O (rows w k (drop w cs)) (point i))) = value_ok G L w (rows w k (drop w cs)) (rows_ok G L w k (drop w cs) left (drop_valid G w cs valid)) (point i) in
         let vi : T (all_valid G inner) = as_valid G L inner _ is (ok_valid G w _ good) in
         add vi vc
         ∙ ap₂ (λ (a b : List C). tuple_plus G a (act O (point i) b)) (ec ∙ ef) is
-        ∙ ap (λ (k : ℕ). value O (rows w k cs) (point i)) more
+        ∙ ap (λ (a : ℕ). value O (rows w a cs) (point i)) more
 
     -- the key and the point times the value of the coefficients
     pub dealt_from : (n : ℕ) (k : C) (known : List C) → 0 < w → n * w ≤ length cs → T (G.valid k)

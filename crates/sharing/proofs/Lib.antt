@@ -1,4 +1,3 @@
-pub mod HelperLists
 pub mod Acting
 pub mod Weights
 pub mod Horner
@@ -7,3 +6,8 @@ pub mod ShareRows
 pub mod Verdicts
 pub mod Choosing
 pub mod Interpolating
+pub mod FirstPlaces
+pub mod Filling
+pub mod PrimeSearch
+pub mod Writing
+pub mod Backward

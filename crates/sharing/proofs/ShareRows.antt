@@ -1,5 +1,6 @@
 -- One row of the share memory, as what its holder is dealt is added to it or taken from it.
-use Rattle.std.proofs.Common.{◌≡◌, ℕ, ◌+◌, ◌-◌, ◌*◌, ◌<◌, ◌≤◌, T, List, length, take, drop, ap, ◌∙◌}
+use Rattle.std.proofs.Common.{◌≡◌, ℕ, ◌+◌, ◌-◌, ◌*◌, ◌/◌, ◌<◌, T, List, length, take, drop, ap, ◌∙◌, arith}
+use Rattle.std.proofs.Math.Nat.{mul-div_cancel}
 use borrow.Rule.Slice.PartMut.{put_mid}
 use Rattle.algebra.specs.Group.{GroupOps, GroupLaws}
 use Rattle.algebra.specs.Tuples.{all_valid, tuple_plus, list_ops}
@@ -23,11 +24,12 @@ module _ {C : Type 0} (G : GroupOps C) (d : Change) where
 
 -- what was dealt is added or taken away
 module _ {C : Type 0} (G : GroupOps C) (L : GroupLaws G) (d : Change) (w h i count : ℕ) (k : C) (cs xs : List C) where
-  pub dealt_row : (known after : List C) → 0 < w → count * w ≤ length cs
-      → (T (all_valid G cs) → known ≡ value (list_ops G w) (rows w count cs) (point i))
+  pub dealt_row : (known after : List C) → 0 < w → length cs ≡ count * w
+      → (T (all_valid G cs) → known ≡ value (list_ops G w) (rows w (length cs / w) cs) (point i))
       → (T (all_valid G xs) → T (G.valid k) → T (all_valid G known) → after ≡ put_row w h (changed G d (row_at w h xs) (tuple_plus G (embedded G w k) (act (list_ops G w) (point i) known))) xs)
       → T (all_valid G xs) → T (G.valid k) → T (all_valid G cs)
       → after ≡ put_row w h (changed G d (row_at w h xs) (dealt G w i k count cs)) xs
   dealt_row known after wide full is change p vk v =
-      let e = dealt_from G L w i cs v count k known wide full vk (is v) in
+      let n : length cs / w ≡ count = ap (λ (a : ℕ). a / w) full ∙ mul-div_cancel count wide in
+      let e = dealt_from G L w i cs v count k known wide (omega arith) vk (is v ∙ ap (λ (a : ℕ). value (list_ops G w) (rows w a cs) (point i)) n) in
       change p vk e.0 ∙ ap (λ (z : List C). put_row w h (changed G d (row_at w h xs) z) xs) e.1

@@ -8,6 +8,9 @@ use Rattle.sharing.specs.Verdicts.{row, located, length_row, first, verdict}
 never : {X : Type 0} {x : X} → ◌≡◌ {A = Option X} (Some x) None → ⊥
 never e = let z : ◌≡◌ {A = ℕ} 0 1 = cc in omega arith
 
+pub fails_everywhere : (p : ℕ → Bool) (n : ℕ) → first_place p 0 n ≡ None → (k : ℕ) → k < n → p k ≡ false
+fails_everywhere p n e k l = let a : 0 + k ≡ k = omega arith in subst (λ (j : ℕ). p j ≡ false) a (nowhere p 0 n k e l)
+
 module _ {F : Type 0} where
   pub verdict_ok : (o : Option F) → verdict o ≡ Ok tt → o ≡ None
   verdict_ok None e = refl
@@ -51,9 +54,7 @@ module _ {F : Type 0} where
 
   -- the test of a row that found no place fails everywhere
   pub everywhere : (p : ℕ → Bool) (f : ℕ → F) (n : ℕ) → located f (first_place p 0 n) ≡ None → (k : ℕ) → k < n → p k ≡ false
-  everywhere p f n e k l =
-      let a : 0 + k ≡ k = omega arith in
-      subst (λ (j : ℕ). p j ≡ false) a (nowhere p 0 n k (located_none f (first_place p 0 n) e) l)
+  everywhere p f n e = fails_everywhere p n (located_none f (first_place p 0 n) e)
 
   -- rows that do not apply
   pub length_fits : (f : ℕ → F) (right len : ℕ) → len ≡ right → length_row f right len ≡ None

@@ -8,20 +8,29 @@ use Rattle.algebra.specs.Tuples.{all_valid, ok, list_ops}
 use Rattle.algebra.specs.Space.{ok_of}
 use Rattle.algebra.specs.Scalars.{Scalar, one, times, act, point}
 use Rattle.algebra.specs.Sharing.{less, inverse, factor}
-use Rattle.algebra.specs.Primes.{OddPrime, inverse_number}
+use Rattle.algebra.specs.Primes.{inverse_number}
 use Rattle.algebra.specs.Dealing.{weight_at}
 use Rattle.algebra.proofs.Around.{factor_is}
 use Rattle.algebra.proofs.Dealings.{act_ok, act_equal}
 use Rattle.algebra.proofs.Ways.{ahead_some, ahead_back, point_mod}
 use Rattle.algebra.proofs.PrimeNumbers.{inverts}
 use Rattle.algebra.proofs.TupleModule.{tuple_laws}
+use Rattle.sharing.specs.declared.scheme.Scheme.{Scheme}
 use Rattle.sharing.proofs.Acting.{as_valid, act_length, act_valid}
 
--- the way from one place to another comes round, since q is a prime
-pub way_round : (q j k d : ℕ) → OddPrime q → q ≤ 31 → j < q → k < q → (k ≡ j → ⊥) → d ≡ ahead q j k → ComesRound q d
-way_round q j k d prime small hj hk apart e =
-    let a : ℕ = ahead q j k in
-    subst (λ (x : ℕ). ComesRound q x) (sym e) (inverse_number q a, inverts q prime small a (ahead_some q j k hj hk apart) (mod-lt (k + (q - j)) (omega arith)))
+pub q_some : (s : Scheme) → 0 < s.q
+q_some s = omega (arith, s.above)
+
+-- each way comes round, since q is a prime
+pub comes_round : (s : Scheme) (d : ℕ) → 0 < d → d < s.q → ComesRound s.q d
+comes_round s d some below = (inverse_number s.q d, inverts s.q s.prime s.small d some below)
+
+-- a way that was computed
+pub way_below : (q i j d : ℕ) → i < q → d ≡ ahead q i j → d < q
+way_below q i j d h e = subst (λ (x : ℕ). x < q) (sym e) (mod-lt (j + (q - i)) (omega arith))
+
+pub way_some : (q j k d : ℕ) → j < q → k < q → (k ≡ j → ⊥) → d ≡ ahead q j k → 0 < d
+way_some q j k d hj hk apart e = subst (λ (x : ℕ). 0 < x) (sym e) (ahead_some q j k hj hk apart)
 
 -- k's part in the weight of j at the point p
 abbrev pub factor_at : ℕ → ℕ → ℕ → ℕ → Scalar
@@ -46,29 +55,36 @@ turned_weight q L p j [] m = refl
 turned_weight {O = O} q L p j (k ∷ hs) m =
     factor_turned q L p j k (act O (weight_at q hs (p % q) j) m) ∙ ap (act O (factor_at q p j k)) (turned_weight q L p j hs m)
 
--- the first of the helpers, and those after it
-pub first_below : (q k : ℕ) (hs rest : List ℕ) → hs ≡ k ∷ rest → ((i : ℕ) → i < length hs → get_or hs i 0 < q) → k < q
-first_below q k hs rest e below = let n : 0 < length hs = omega (arith, ap length e) in subst (λ (l : List ℕ). get_or l 0 0 < q) e (below 0 n)
+-- where all helpers are holders, so are the first and those after it
+module _ (s : Scheme) (k : ℕ) (hs rest : List ℕ) (e : hs ≡ k ∷ rest) (known : (i : ℕ) → i < length hs → (1 ≤ get_or hs i 0) × (get_or hs i 0 ≤ s.n)) where
+  pub first_below : k < s.q
+  first_below =
+      let n : 0 < length hs = omega (arith, ap length e) in
+      let h : k ≤ s.n = subst (λ (l : List ℕ). get_or l 0 0 ≤ s.n) e (known 0 n).1 in
+      omega (arith, s.above)
 
-pub rest_below : (q k : ℕ) (hs rest : List ℕ) → hs ≡ k ∷ rest → ((i : ℕ) → i < length hs → get_or hs i 0 < q) → (i : ℕ) → i < length rest → get_or rest i 0 < q
-rest_below q k hs rest e below i h = let n : suc i < length hs = omega (arith, ap length e) in subst (λ (l : List ℕ). get_or l (suc i) 0 < q) e (below (suc i) n)
+  pub rest_known : (i : ℕ) → i < length rest → (1 ≤ get_or rest i 0) × (get_or rest i 0 ≤ s.n)
+  rest_known i h =
+      let n : suc i < length hs = omega (arith, ap length e) in
+      subst (λ (l : List ℕ). (1 ≤ get_or l (suc i) 0) × (get_or l (suc i) 0 ≤ s.n)) e (known (suc i) n)
 
 module _ {C : Type 0} (G : GroupOps C) (L : GroupLaws G) where
   -- what a walk writes
-  pub factored : (q p j k d come : ℕ) (m out : List C) → OddPrime q → q ≤ 31 → k < q → p < q → j < q → length m ≡ q - 1 → T (all_valid G m) → (k ≡ j → ⊥)
-      → d ≡ ahead q j k → come ≡ ahead q p j
-      → ((r : List C) → T (ok G (q - 1) r) → Quotient G q d come (q - d) m r → out ≡ r)
-      → out ≡ act (list_ops G (q - 1)) (factor_at q p j k) m
-  factored q p j k d come m out prime small hk hp hj n v apart ed ec walk =
-      let s : Scalar = times (less (point k) (point p)) (inverse q (inverse_number q) k j) in
+  pub factored : (s : Scheme) (p j k d come : ℕ) (m out : List C) → k < s.q → p < s.q → j < s.q → length m ≡ s.q - 1 → T (all_valid G m) → (k ≡ j → ⊥)
+      → d ≡ ahead s.q j k → come ≡ ahead s.q p j
+      → ((r : List C) → T (ok G (s.q - 1) r) → Quotient G s.q d come (s.q - d) m r → out ≡ r)
+      → out ≡ act (list_ops G (s.q - 1)) (factor_at s.q p j k) m
+  factored s p j k d come m out hk hp hj n v apart ed ec walk =
+      let q : ℕ = s.q in
+      let t : Scalar = times (less (point k) (point p)) (inverse q (inverse_number q) k j) in
       let good : T (ok G (q - 1) m) = ok_of G (q - 1) m n v in
-      let r : List C = act (list_ops G (q - 1)) s m in
-      let is : Quotient G q (ahead q j k) (ahead q p j) (ahead q k j) m r = factor_is G L q k p j (inverse_number q) (inverts q prime small) prime.1.0 hk hp hj apart m good in
+      let r : List C = act (list_ops G (q - 1)) t m in
+      let is : Quotient G q (ahead q j k) (ahead q p j) (ahead q k j) m r = factor_is G L q k p j (inverse_number q) (inverts q s.prime s.small) s.prime.1.0 hk hp hj apart m good in
       let back : q - ahead q j k ≡ ahead q k j = sym (ahead_back q j k hj hk apart) in
       let ways : Quotient G q d come (q - d) m r =
       subst (λ (x : ℕ). Quotient G q x come (q - x) m r) (sym ed)
       (subst (λ (x : ℕ). Quotient G q (ahead q j k) x (q - ahead q j k) m r) (sym ec) (subst (λ (x : ℕ). Quotient G q (ahead q j k) (ahead q p j) x m r) (sym back) is)) in
-      walk r (act_ok G L (q - 1) s m good) ways ∙ ap (λ (t : Scalar). act (list_ops G (q - 1)) t m) (sym (factor_other q p j k apart))
+      walk r (act_ok G L (q - 1) t m good) ways ∙ ap (λ (u : Scalar). act (list_ops G (q - 1)) u m) (sym (factor_other q p j k apart))
 
   pub weight_turned : (q p j : ℕ) → 2 ≤ q → (hs : List ℕ) (m : List C) → T (ok G (q - 1) m) → act (list_ops G (q - 1)) (weight_at q hs (p % q) j) m ≡ act (list_ops G (q - 1)) (weight_at q hs p j) m
   weight_turned q p j two hs = act_equal G L (q - 1) (weight_at q hs (p % q) j) (weight_at q hs p j) (turned_weight q (tuple_laws G L q two) p j hs)

@@ -1,98 +1,93 @@
-ghost use Rattle.std.specs.Prelude.{◌≡◌, ℕ, ◌+◌, ◌-◌, ◌*◌, ◌<◌, ◌≤◌, T, length, slice_index};
+ghost use Rattle.std.specs.Prelude.{◌≡◌, ◌-◌, ◌*◌, ◌/◌, ◌%◌, ◌<◌, ◌≤◌, T, length};
 ghost use Rattle.algebra.specs.Dealing.{embedded, tuple_at};
-ghost use Rattle.algebra.specs.Primes.{OddPrime};
 ghost use Rattle.algebra.specs.Rows.{rows};
 ghost use Rattle.algebra.specs.Scalars.{act, point};
 ghost use Rattle.algebra.specs.Sharing.{value as value_at};
 ghost use Rattle.algebra.specs.Tuples.{all_valid, tuple_plus, list_ops};
 ghost use Rattle.sharing.specs.Shares.{changed};
 
+use crate::helpers::Helpers;
 use crate::points::{change_element, change_point, mul_weight};
+use crate::scheme::Scheme;
 use crate::shares::Change;
 use crate::tuples::{add_into, fill_zero};
 use groups::group::Group;
 
 // Writes c1 + a c2 + a^2 c3 + .. to `out`, by way of `other`, where a is the point i and c1, c2, ..
-// are the tuples in `coefficients`, one at least.
+// are the rows of `coefficients`, one at least.
+//
+// It calls itself with the two tuples' parts changed, so that no value is copied.
 pub(crate) fn evaluate<G: Group>(
     g: &G,
-    q: usize,
+    scheme: Scheme,
     i: usize,
     coefficients: &[G::Element],
-    count: usize,
     out: &mut [G::Element],
     other: &mut [G::Element],
 )
-    requires two { 2 ≤ q }
     requires some { 1 ≤ i }
-    requires below { i < q }
-    requires one { 1 ≤ count }
-    requires full { length coefficients.now ≡ count * (q - 1) }
-    requires out { length out.old ≡ q - 1 }
-    requires other { length other.old ≡ q - 1 }
-    ensures { T (all_valid (G.ops g.now) coefficients.now) → out.new ≡ value_at (list_ops (G.ops g.now) (q - 1)) (rows (q - 1) count coefficients.now) (point i) }
+    requires below { i < scheme.q }
+    requires one { scheme.q - 1 ≤ length coefficients.now }
+    requires whole { length coefficients.now % (scheme.q - 1) ≡ 0 }
+    requires out { length out.old ≡ scheme.q - 1 }
+    requires other { length other.old ≡ scheme.q - 1 }
+    ensures { T (all_valid (G.ops g.now) coefficients.now) → out.new ≡ value_at (list_ops (G.ops g.now) (scheme.q - 1)) (rows (scheme.q - 1) (length coefficients.now / (scheme.q - 1)) coefficients.now) (point i) }
 {
-    let (first, rest) = coefficients.split_at(q - 1);
-    if count == 1 {
+    let (first, rest) = coefficients.split_at(scheme.width());
+    if rest.is_empty() {
         out.copy_from_slice(first);
         return;
     }
-    evaluate(g, q, i, rest, count - 1, other, out);
+    evaluate(g, scheme, i, rest, other, out);
     out.copy_from_slice(first);
-    change_point(g, Change::Add, q, i, other, out);
+    change_point(g, scheme, Change::Add, i, other, out);
 }
 
 // Adds a key and the point i times `value` to a share, or takes them from it.
 pub(crate) fn change_share<G: Group>(
     g: &G,
+    scheme: Scheme,
     change: Change,
-    q: usize,
     i: usize,
     key: G::Element,
     value: &[G::Element],
     share: &mut [G::Element],
 )
-    requires two { 2 ≤ q }
     requires some { 1 ≤ i }
-    requires below { i < q }
-    requires value { length value.now ≡ q - 1 }
-    requires share { length share.old ≡ q - 1 }
-    ensures { T ((G.ops g.now).valid key) → T (all_valid (G.ops g.now) value.now) → T (all_valid (G.ops g.now) share.old) → share.new ≡ changed (G.ops g.now) change share.old (tuple_plus (G.ops g.now) (embedded (G.ops g.now) (q - 1) key) (act (list_ops (G.ops g.now) (q - 1)) (point i) value.now)) }
+    requires below { i < scheme.q }
+    requires value { length value.now ≡ scheme.q - 1 }
+    requires share { length share.old ≡ scheme.q - 1 }
+    ensures { T ((G.ops g.now).valid key) → T (all_valid (G.ops g.now) value.now) → T (all_valid (G.ops g.now) share.old) → share.new ≡ changed (G.ops g.now) change share.old (tuple_plus (G.ops g.now) (embedded (G.ops g.now) (scheme.q - 1) key) (act (list_ops (G.ops g.now) (scheme.q - 1)) (point i) value.now)) }
 {
-    change_point(g, change, q, i, value, share);
+    change_point(g, scheme, change, i, value, share);
     share[0] = change_element(g, change, share[0], key);
 }
 
-// Writes the tuple that the helpers' shares give at the point p to `out`, by way of `term` and
-// `other`.
+// Writes the tuple that the helpers' shares give at the point p to `out`, by way of two tuples of
+// `scratch`.
 pub(crate) fn interpolate<G: Group>(
     g: &G,
-    q: usize,
-    helpers: &[u32],
+    helpers: Helpers,
     p: usize,
     shares: &[G::Element],
     out: &mut [G::Element],
-    term: &mut [G::Element],
-    other: &mut [G::Element],
+    scratch: &mut [G::Element],
 )
-    requires prime { OddPrime q }
-    requires small { q ≤ 31 }
-    requires low { (i : ℕ) → i < length helpers.now → 1 ≤ slice_index helpers.now i }
-    requires below { (i : ℕ) → i < length helpers.now → slice_index helpers.now i < q }
-    requires held { (i : ℕ) → i < length helpers.now → slice_index helpers.now i * (q - 1) ≤ length shares.now }
-    requires out { length out.old ≡ q - 1 }
-    requires term { length term.old ≡ q - 1 }
-    requires other { length other.old ≡ q - 1 }
-    ensures { T (all_valid (G.ops g.now) shares.now) → out.new ≡ tuple_at (G.ops g.now) q helpers.now p shares.now }
+    requires full { length shares.now ≡ helpers.scheme.n * (helpers.scheme.q - 1) }
+    requires out { length out.old ≡ helpers.scheme.q - 1 }
+    requires room { length scratch.old ≡ 3 * (helpers.scheme.q - 1) }
+    ensures { T (all_valid (G.ops g.now) shares.now) → out.new ≡ tuple_at (G.ops g.now) helpers.entry.scheme.q helpers.entry.list.now p shares.now }
 {
-    let width = q - 1;
-    let turned = p % q;
+    let width = helpers.scheme.width();
+    let (term, rest) = scratch.split_at_mut(width);
+    let (other, _) = rest.split_at_mut(width);
+    let turned = p % helpers.scheme.q;
     fill_zero(g, out);
-    for i in (0..helpers.len()).rev() {
-        let j = helpers[i] as usize;
+    for j in helpers.list.iter().rev() {
+        let j = *j as usize;
         let a = (j - 1) * width;
         let share = &shares[a..a + width];
-        mul_weight(g, q, helpers, turned, j, share, term, other);
+        mul_weight(g, helpers, turned, j, share, term, other);
         add_into(g, out, term);
     }
 }

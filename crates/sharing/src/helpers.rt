@@ -1,4 +1,4 @@
-ghost use Rattle.std.specs.Prelude.{◌≡◌, ◌<◌, length};
+ghost use Rattle.std.specs.Prelude.{◌≡◌, ℕ, ◌<◌, ◌≤◌, length, slice_index, MatchResult};
 ghost use Rattle.algebra.specs.Rows.{first_place};
 ghost use Rattle.sharing.specs.Verdicts.{first, verdict};
 ghost use Rattle.sharing.specs.Helpers.{unknown_at, repeated_at, helper_rows};
@@ -11,13 +11,9 @@ use crate::scheme::Scheme;
 fn first_unknown(n: usize, helpers: &[u32]) -> Option<usize>
     ensures { result ≡ first_place (unknown_at n helpers.now) 0 (length helpers.now) }
 {
-    for i in 0..helpers.len() {
-        let number = helpers[i] as usize;
-        if number < 1 || number > n {
-            return Some(i);
-        }
-    }
-    None
+    helpers
+        .iter()
+        .position(|number| *number < 1 || *number as usize > n)
 }
 
 // Whether the number at position i stands at an earlier one too.
@@ -25,39 +21,47 @@ fn is_repeated(helpers: &[u32], i: usize) -> bool
     requires { i < length helpers.now }
     ensures { result ≡ repeated_at helpers.now i }
 {
-    for j in 0..i {
-        if helpers[j] == helpers[i] {
-            return true;
-        }
-    }
-    false
+    helpers[..i].contains(&helpers[i])
 }
 
 // The first position of a number that stands at an earlier one too.
 fn first_repeated(helpers: &[u32]) -> Option<usize>
     ensures { result ≡ first_place (repeated_at helpers.now) 0 (length helpers.now) }
 {
-    for i in 0..helpers.len() {
-        if is_repeated(helpers, i) {
-            return Some(i);
+    (0..helpers.len()).find(|i| is_repeated(helpers, *i))
+}
+
+// A list of holders of a scheme.
+#[derive(Clone, Copy)]
+pub(crate) struct Helpers<'a> {
+    pub scheme: Scheme,
+    pub list: &'a [u32],
+    ghost known: { (i : ℕ) → i < length list.now → (1 ≤ slice_index list.now i) × (slice_index list.now i ≤ scheme.n) },
+}
+
+impl<'a> Helpers<'a> {
+    // Refuses a list that is not of t different holders of the scheme.
+    pub(crate) fn new(scheme: Scheme, list: &'a [u32]) -> Result<Self, CabinetFault>
+        ensures { MatchResult result (λ h. (h.scheme ≡ scheme) × (h.list.now ≡ list.now) × (first (helper_rows scheme list.now) ≡ None)) (λ e. first (helper_rows scheme list.now) ≡ Some e) }
+    {
+        if list.len() != scheme.t {
+            return Err(CabinetFault::HelperCount(list.len()));
         }
+        if let Some(i) = first_unknown(scheme.n, list) {
+            return Err(CabinetFault::UnknownHelper(i));
+        }
+        if let Some(i) = first_repeated(list) {
+            return Err(CabinetFault::RepeatedHelper(i));
+        }
+        Ok(Helpers { scheme, list })
     }
-    None
 }
 
 // Refuses a list that is not of t different holders of the scheme.
 pub fn check_helpers(scheme: Scheme, helpers: &[u32]) -> Result<(), CabinetFault>
     ensures { result ≡ verdict (first (helper_rows scheme helpers.now)) }
 {
-    if helpers.len() != scheme.t {
-        return Err(CabinetFault::HelperCount(helpers.len()));
-    }
-    if let Some(i) = first_unknown(scheme.n, helpers) {
-        return Err(CabinetFault::UnknownHelper(i));
-    }
-    if let Some(i) = first_repeated(helpers) {
-        return Err(CabinetFault::RepeatedHelper(i));
-    }
+    Helpers::new(scheme, helpers)?;
     Ok(())
 }
 

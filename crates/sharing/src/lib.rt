@@ -7,6 +7,7 @@
 mod dealing;
 pub mod fault;
 pub mod helpers;
+pub mod lengths;
 mod points;
 pub mod scheme;
 pub mod shares;

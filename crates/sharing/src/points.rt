@@ -1,11 +1,12 @@
-ghost use Rattle.std.specs.Prelude.{◌≡◌, ℕ, ◌+◌, ◌-◌, ◌%◌, ◌<◌, ◌≤◌, T, List, length, slice_index, slice_index_or};
-ghost use Rattle.algebra.specs.Circle.{ahead, ComesRound, Quotient};
+ghost use Rattle.std.specs.Prelude.{◌≡◌, ◌+◌, ◌-◌, ◌%◌, ◌<◌, ◌≤◌, T, List, length, slice_index_or};
+ghost use Rattle.algebra.specs.Circle.{ahead, Quotient};
 ghost use Rattle.algebra.specs.Dealing.{weight_at};
-ghost use Rattle.algebra.specs.Primes.{OddPrime};
 ghost use Rattle.algebra.specs.Scalars.{act, point};
 ghost use Rattle.algebra.specs.Tuples.{all_valid, ok, list_ops};
 ghost use Rattle.sharing.specs.Shares.{changed_element, changed};
 
+use crate::helpers::Helpers;
+use crate::scheme::Scheme;
 use crate::shares::Change;
 use groups::group::Group;
 
@@ -35,7 +36,7 @@ fn place<G: Group>(g: &G, m: &[G::Element], i: usize) -> G::Element
     if i < m.len() { m[i] } else { g.zero() }
 }
 
-// What stands i places before s on the circle.
+// What stands i places before s on the circle of q places.
 fn behind<G: Group>(g: &G, q: usize, m: &[G::Element], s: usize, i: usize) -> G::Element
     requires m { length m.now ≡ q - 1 }
     requires s { s < q - 1 }
@@ -57,25 +58,26 @@ fn behind<G: Group>(g: &G, q: usize, m: &[G::Element], s: usize, i: usize) -> G:
 // what stood there before, so that a sum of many powers of x costs one pass.
 fn mul_quotient<G: Group>(
     g: &G,
-    q: usize,
+    scheme: Scheme,
     d: usize,
     come: usize,
     m: &[G::Element],
     out: &mut [G::Element],
 )
-    requires d { d < q }
-    requires come { come < q }
-    requires round { ComesRound q d }
-    requires m { length m.now ≡ q - 1 }
-    requires out { length out.old ≡ q - 1 }
-    ensures { T (all_valid (G.ops g.now) m.now) → (r : List G.Element) → T (ok (G.ops g.now) (q - 1) r) → Quotient (G.ops g.now) q d come (q - d) m.now r → out.new ≡ r }
+    requires some { 0 < d }
+    requires d { d < scheme.q }
+    requires come { come < scheme.q }
+    requires m { length m.now ≡ scheme.q - 1 }
+    requires out { length out.old ≡ scheme.q - 1 }
+    ensures { T (all_valid (G.ops g.now) m.now) → (r : List G.Element) → T (ok (G.ops g.now) (scheme.q - 1) r) → Quotient (G.ops g.now) scheme.q d come (scheme.q - d) m.now r → out.new ≡ r }
 {
-    let mut to = q - 1;
+    let mut to = scheme.q - 1;
     let mut less = g.zero();
     let mut sum = g.zero();
+    // The proof alone reads how many steps are done.
     for done in 0..m.len() {
-        to = onward(q, to, d);
-        let more = place(g, m, onward(q, to, come));
+        to = onward(scheme.q, to, d);
+        let more = place(g, m, onward(scheme.q, to, come));
         sum = g.sum(sum, g.difference(more, less));
         less = m[to];
         out[to] = sum;
@@ -100,57 +102,59 @@ pub(crate) fn change_element<G: Group>(
 // Adds the point i times `m` to `to`, or takes it from `to`.
 pub(crate) fn change_point<G: Group>(
     g: &G,
+    scheme: Scheme,
     change: Change,
-    q: usize,
     i: usize,
     m: &[G::Element],
     to: &mut [G::Element],
 )
-    requires two { 2 ≤ q }
     requires some { 1 ≤ i }
-    requires below { i < q }
-    requires m { length m.now ≡ q - 1 }
-    requires to { length to.old ≡ q - 1 }
-    ensures { T (all_valid (G.ops g.now) m.now) → T (all_valid (G.ops g.now) to.old) → to.new ≡ changed (G.ops g.now) change to.old (act (list_ops (G.ops g.now) (q - 1)) (point i) m.now) }
+    requires below { i < scheme.q }
+    requires m { length m.now ≡ scheme.q - 1 }
+    requires to { length to.old ≡ scheme.q - 1 }
+    ensures { T (all_valid (G.ops g.now) m.now) → T (all_valid (G.ops g.now) to.old) → to.new ≡ changed (G.ops g.now) change to.old (act (list_ops (G.ops g.now) (scheme.q - 1)) (point i) m.now) }
 {
     let mut sum = g.zero();
+    // By index, since after `iter_mut` a proof knows the length and no element.
     for s in 0..m.len() {
-        let less = behind(g, q, m, s, i);
+        let less = behind(g, scheme.q, m, s, i);
         sum = g.sum(sum, g.difference(m[s], less));
         to[s] = change_element(g, change, to[s], sum);
     }
 }
 
 // Writes the weight of j among the helpers at the point p times `m` to `out`, by way of `other`.
+//
+// It calls itself with the two tuples' parts changed, so that no product is copied.
 pub(crate) fn mul_weight<G: Group>(
     g: &G,
-    q: usize,
-    helpers: &[u32],
+    helpers: Helpers,
     p: usize,
     j: usize,
     m: &[G::Element],
     out: &mut [G::Element],
     other: &mut [G::Element],
 )
-    requires prime { OddPrime q }
-    requires small { q ≤ 31 }
-    requires helpers { (i : ℕ) → i < length helpers.now → slice_index helpers.now i < q }
-    requires p { p < q }
-    requires j { j < q }
-    requires m { length m.now ≡ q - 1 }
-    requires out { length out.old ≡ q - 1 }
-    requires other { length other.old ≡ q - 1 }
-    ensures { T (all_valid (G.ops g.now) m.now) → out.new ≡ act (list_ops (G.ops g.now) (q - 1)) (weight_at q helpers.now p j) m.now }
+    requires p { p < helpers.scheme.q }
+    requires j { j < helpers.scheme.q }
+    requires m { length m.now ≡ helpers.scheme.q - 1 }
+    requires out { length out.old ≡ helpers.scheme.q - 1 }
+    requires other { length other.old ≡ helpers.scheme.q - 1 }
+    ensures { T (all_valid (G.ops g.now) m.now) → out.new ≡ act (list_ops (G.ops g.now) (helpers.entry.scheme.q - 1)) (weight_at helpers.entry.scheme.q helpers.entry.list.now p j) m.now }
 {
-    let Some((k, rest)) = helpers.split_first() else {
+    let scheme = helpers.scheme;
+    let Some((k, list)) = helpers.list.split_first() else {
         out.copy_from_slice(m);
         return;
     };
     let k = *k as usize;
+    let rest = Helpers { scheme, list };
     if k == j {
-        mul_weight(g, q, rest, p, j, m, out, other);
+        mul_weight(g, rest, p, j, m, out, other);
         return;
     }
-    mul_weight(g, q, rest, p, j, m, other, out);
-    mul_quotient(g, q, way(q, j, k), way(q, p, j), other, out);
+    mul_weight(g, rest, p, j, m, other, out);
+    let d = way(scheme.q, j, k);
+    let come = way(scheme.q, p, j);
+    mul_quotient(g, scheme, d, come, other, out);
 }

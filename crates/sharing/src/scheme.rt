@@ -70,12 +70,7 @@ fn is_odd_prime(m: usize) -> bool
     if m < 2 || m % 2 == 0 {
         return false;
     }
-    for d in 2..m {
-        if m % d == 0 {
-            return false;
-        }
-    }
-    true
+    (2..m).all(|d| m % d != 0)
 }
 
 // The least odd prime above n, which 31 bounds.
@@ -84,10 +79,5 @@ fn least_odd_prime(n: usize) -> usize
     ensures least { LeastOddPrime n result }
     ensures small { result ≤ 31 }
 {
-    for m in n + 1..31 {
-        if is_odd_prime(m) {
-            return m;
-        }
-    }
-    31
+    (n + 1..31).find(|m| is_odd_prime(*m)).unwrap_or(31)
 }

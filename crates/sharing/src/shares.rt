@@ -1,4 +1,4 @@
-ghost use Rattle.std.specs.Prelude.{◌≡◌, ℕ, ◌+◌, ◌-◌, ◌*◌, ◌<◌, ◌≤◌, T, ◌++◌, length, MatchResult, OnOk, slice_index};
+ghost use Rattle.std.specs.Prelude.{◌≡◌, ◌+◌, ◌-◌, ◌*◌, ◌<◌, ◌≤◌, T, ◌++◌, length, MatchResult, OnOk};
 ghost use Rattle.algebra.specs.Scalars.{act, point};
 ghost use Rattle.algebra.specs.Tuples.{all_valid, tuple_plus, list_ops};
 ghost use Rattle.algebra.specs.Rows.{row_at, put_row};
@@ -8,11 +8,14 @@ ghost use Rattle.sharing.specs.Shares.{changed, length_rows, dealing_rows, tuple
 
 use crate::dealing::{change_share, evaluate, interpolate};
 use crate::fault::CabinetFault;
-use crate::helpers::{check_helpers, check_holder};
+use crate::helpers::{Helpers, check_holder};
+use crate::lengths::check_count;
 use crate::scheme::Scheme;
 use groups::group::Group;
 
 // Whether what is dealt is added to a share or taken from it.
+//
+// An enum and no closure, since what a dealing promises says which of the two was done.
 #[derive(Clone, Copy)]
 pub enum Change {
     Add,
@@ -23,33 +26,32 @@ pub enum Change {
 fn check_lengths(scheme: Scheme, shares: usize, scratch: usize) -> Result<(), CabinetFault>
     ensures { result ≡ verdict (first (length_rows scheme shares scratch)) }
 {
-    if shares != scheme.share_length() {
-        return Err(CabinetFault::MemoryLength(scheme.share_length()));
-    }
-    if scratch != 3 * scheme.width() {
-        return Err(CabinetFault::MemoryLength(3 * scheme.width()));
-    }
-    Ok(())
+    check_count(CabinetFault::MemoryLength, scheme.share_length(), shares)?;
+    check_count(CabinetFault::MemoryLength, 3 * scheme.width(), scratch)
 }
 
 // Refuses a wrong number of coefficients, and a holder that the scheme does not have.
 fn check_dealing(scheme: Scheme, coefficients: usize, holder: u32) -> Result<(), CabinetFault>
     ensures { result ≡ verdict (first (dealing_rows scheme coefficients holder)) }
 {
-    if coefficients != scheme.coefficient_count() {
-        return Err(CabinetFault::CoefficientCount(scheme.coefficient_count()));
-    }
+    check_count(
+        CabinetFault::CoefficientCount,
+        scheme.coefficient_count(),
+        coefficients,
+    )?;
     check_holder(scheme, holder)
 }
 
 // Refuses a tuple of a wrong length, and a list that is not of t different holders of the scheme.
-fn check_tuple(scheme: Scheme, out: usize, helpers: &[u32]) -> Result<(), CabinetFault>
-    ensures { result ≡ verdict (first (tuple_rows scheme out helpers.now)) }
+fn check_tuple<'a>(
+    scheme: Scheme,
+    out: usize,
+    helpers: &'a [u32],
+) -> Result<Helpers<'a>, CabinetFault>
+    ensures { MatchResult result (λ h. (h.scheme ≡ scheme) × (h.list.now ≡ helpers.now) × (first (tuple_rows scheme out helpers.now) ≡ None)) (λ e. first (tuple_rows scheme out helpers.now) ≡ Some e) }
 {
-    if out != scheme.width() {
-        return Err(CabinetFault::MemoryLength(scheme.width()));
-    }
-    check_helpers(scheme, helpers)
+    check_count(CabinetFault::MemoryLength, scheme.width(), out)?;
+    Helpers::new(scheme, helpers)
 }
 
 // Adds a key and the point h + 1 times `value` to the row h of the share memory, or takes them from
@@ -71,7 +73,7 @@ fn change_row<G: Group>(
     let width = scheme.q - 1;
     let start = h * width;
     let share = &mut shares[start..start + width];
-    change_share(group, change, scheme.q, h + 1, key, value, share);
+    change_share(group, scheme, change, h + 1, key, value, share);
 }
 
 // Adds to the row h of the share memory what its holder is dealt, or takes that from it.
@@ -91,11 +93,10 @@ fn deal_row<G: Group>(
     requires count { length coefficients.now ≡ (scheme.t - 1) * (scheme.q - 1) }
     ensures { T (all_valid (G.ops group.now) shares.old) → T ((G.ops group.now).valid key) → T (all_valid (G.ops group.now) coefficients.now) → shares.new ≡ put_row (scheme.q - 1) h (changed (G.ops group.now) change (row_at (scheme.q - 1) h shares.old) (dealt (G.ops group.now) (scheme.q - 1) (h + 1) key (scheme.t - 1) coefficients.now)) shares.old }
 {
-    let width = scheme.q - 1;
-    let count = scheme.t - 1;
+    let width = scheme.width();
     let (value, rest) = scratch.split_at_mut(width);
     let (other, _) = rest.split_at_mut(width);
-    evaluate(group, scheme.q, h + 1, coefficients, count, value, other);
+    evaluate(group, scheme, h + 1, coefficients, value, other);
     change_row(group, scheme, change, h, key, value, shares);
 }
 
@@ -125,28 +126,6 @@ pub fn deal_to<G: Group>(
     Ok(())
 }
 
-// Writes the tuple at a point to `out`.
-fn write_tuple<G: Group>(
-    group: &G,
-    scheme: Scheme,
-    helpers: &[u32],
-    point: usize,
-    shares: &[G::Element],
-    out: &mut [G::Element],
-    scratch: &mut [G::Element],
-)
-    requires known { (i : ℕ) → i < length helpers.now → (1 ≤ slice_index helpers.now i) × (slice_index helpers.now i ≤ scheme.n) }
-    requires full { length shares.now ≡ scheme.n * (scheme.q - 1) }
-    requires tuple { length out.old ≡ scheme.q - 1 }
-    requires room { length scratch.old ≡ 3 * (scheme.q - 1) }
-    ensures { T (all_valid (G.ops group.now) shares.now) → out.new ≡ tuple_at (G.ops group.now) scheme.q helpers.now point shares.now }
-{
-    let width = scheme.q - 1;
-    let (term, rest) = scratch.split_at_mut(width);
-    let (other, _) = rest.split_at_mut(width);
-    interpolate(group, scheme.q, helpers, point, shares, out, term, other);
-}
-
 // Writes the tuple that t helpers' shares give at a point to `out`.
 //
 // Refuses memory of wrong lengths and a list that is not of t different holders of the scheme; a
@@ -166,7 +145,7 @@ pub fn tuple_at<G: Group>(
     ensures interpolates { OnOk result (T (all_valid (G.ops group.now) shares.now) → Interpolated (G.ops group.now) scheme helpers.now point shares.now out.new) }
 {
     check_lengths(scheme, shares.len(), scratch.len())?;
-    check_tuple(scheme, out.len(), helpers)?;
-    write_tuple(group, scheme, helpers, point, shares, out, scratch);
+    let helpers = check_tuple(scheme, out.len(), helpers)?;
+    interpolate(group, helpers, point, shares, out, scratch);
     Ok(())
 }

@@ -1,4 +1,4 @@
-ghost use Rattle.std.specs.Prelude.{◌≡◌, T, length};
+ghost use Rattle.std.specs.Prelude.{◌≡◌, ℕ, ◌<◌, T, length, slice_index_or};
 ghost use Rattle.algebra.specs.Rows.{first_place};
 ghost use Rattle.algebra.specs.Tuples.{all_valid, invalid_at, tuple_zero, tuple_plus};
 
@@ -9,21 +9,25 @@ pub fn fill_zero<G: Group>(g: &G, to: &mut [G::Element])
     ensures { to.new ≡ tuple_zero (G.ops g.now) (length to.old) }
 {
     let zero = g.zero();
-    for i in 0..to.len() {
-        to[i] = zero;
-    }
+    to.fill_with(|| zero);
 }
 
 // The place of the first element that is not valid.
 pub fn first_invalid<G: Group>(g: &G, xs: &[G::Element]) -> Option<usize>
     ensures { result ≡ first_place (invalid_at (G.ops g.now) xs.now) 0 (length xs.now) }
 {
-    for i in 0..xs.len() {
-        if !g.is_valid(xs[i]) {
-            return Some(i);
-        }
+    xs.iter().position(|x| !g.is_valid(*x))
+}
+
+// Writes to each place what `f` makes of the place and of the element there.
+pub(crate) fn write_each<E: Copy, F: Fn(usize, E) -> E>(to: &mut [E], f: F)
+    requires { (i : ℕ) (x : E) → i < length to.old → F.pre f i x }
+    ensures { (i : ℕ) (d : E) → i < length to.old → F.post f i (slice_index_or to.old i d) (slice_index_or to.new i d) }
+{
+    // By index, since after `iter_mut` a proof knows the length and no element.
+    for i in 0..to.len() {
+        to[i] = f(i, to[i]);
     }
-    None
 }
 
 // Adds `from` to `to`.
@@ -31,7 +35,5 @@ pub(crate) fn add_into<G: Group>(g: &G, to: &mut [G::Element], from: &[G::Elemen
     requires { length from.now ≡ length to.old }
     ensures { T (all_valid (G.ops g.now) to.old) → T (all_valid (G.ops g.now) from.now) → to.new ≡ tuple_plus (G.ops g.now) to.old from.now }
 {
-    for i in 0..to.len() {
-        to[i] = g.sum(to[i], from[i]);
-    }
+    write_each(to, |i, x| g.sum(x, from[i]));
 }

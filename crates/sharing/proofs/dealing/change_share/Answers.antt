@@ -9,7 +9,7 @@ pub returns : goal.returns
 returns g c vk vv vs =
     let G = g.G.Group.ops c.args.g.now in
     let L = g.met.G.Group.laws c.args.g.now in
-    let w = c.args.q - 1 in
+    let w = c.args.scheme.q - 1 in
     let value = c.args.value.now in
     let p = point c.args.i in
     key_changed G L c.args.change w c.args.key c.change_element.result c.index-share-0.result c.args.share.now (act (list_ops G w) p value) c.change_point.new.to

@@ -1,12 +1,13 @@
-use Rattle.std.proofs.Common.{length, sym}
+use Rattle.std.proofs.Common.{length, refl, rules, tests, arith}
+use Rattle.std.proofs.lemmas.Iterator.{YieldsList-from_range}
+use Rattle.std.proofs.lemmas.Iterator.Search.{find_from_yields_List}
 use Rattle.sharing.specs.Helpers.{repeated_at}
-use Rattle.algebra.proofs.Places.{place_found, place_next}
+use Rattle.sharing.proofs.FirstPlaces.{find_place}
 use Rattle.sharing.proofs.helpers.first_repeated.Goals as goal
 
-pub returns-then-is_repeated : goal.returns-then-is_repeated
-returns-then-is_repeated c =
-    place_found (repeated_at c.args.helpers.now) c.loop-i.i (length c.args.helpers.now) c.loop-i-test.true (sym c.if-is_repeated.ensures) c.loop-i.invariant
-
-pub loop-i-preserved : goal.loop-i-preserved
-loop-i-preserved c =
-    place_next (repeated_at c.args.helpers.now) c.loop-i.i (length c.args.helpers.now) c.loop-i-test.true (sym c.if-is_repeated.ensures) c.loop-i.invariant
+pub returns : goal.returns
+returns c =
+    let hs = c.args.helpers.now in
+    let n = length hs in
+    find_place (repeated_at hs) 0 n c.find.result
+    (find_from_yields_List (repeated_at hs) _ _ c.find.result c.find.ensures.ran (YieldsList-from_range 0 n n refl (omega arith)) (λ x b q k. search (rules, tests)))

@@ -1,30 +1,29 @@
-use Rattle.std.proofs.Common.{rules}
-use Rattle.sharing.proofs.Weights.{factored, weight_more, first_below, rest_below, way_round}
+use Rattle.sharing.proofs.Weights.{factored, weight_more, first_below, rest_known, way_some}
 use Rattle.sharing.proofs.points.+mul_weight.Goals as goal
 
-pub mul_weight-requires : goal.mul_weight-requires
-mul_weight-requires g t c κs within =
-    let below = rest_below c.args.q c.in-Some.k.now c.args.helpers.now c.in-Some.rest.now c.in-Some.ensures.cases.0 c.requires.helpers in search rules
+pub invariant_of-rest : goal.invariant_of-rest
+invariant_of-rest g t c = record { known = rest_known c.args.helpers.scheme c.in-Some.k.now c.args.helpers.list.now c.in-Some.list.now c.in-Some.ensures.cases.0 c.args.helpers.known }
 
-pub mul_weight-requires-2 : goal.mul_weight-requires-2
-mul_weight-requires-2 g t c κs within =
-    let below = rest_below c.args.q c.in-Some.k.now c.args.helpers.now c.in-Some.rest.now c.in-Some.ensures.cases.0 c.requires.helpers in search rules
+pub invariant_of-rest-2 : goal.invariant_of-rest-2
+invariant_of-rest-2 g t c = record { known = rest_known c.args.helpers.scheme c.in-Some.k.now c.args.helpers.list.now c.in-Some.list.now c.in-Some.ensures.cases.0 c.args.helpers.known }
 
-pub way-requires-clause-to : goal.way-requires-clause-to
-way-requires-clause-to g t c = first_below c.args.q c.in-Some.k.now c.args.helpers.now c.in-Some.rest.now c.in-Some.ensures.cases.0 c.requires.helpers
+pub way-d-requires-clause-to : goal.way-d-requires-clause-to
+way-d-requires-clause-to g t c = first_below c.args.helpers.scheme c.in-Some.k.now c.args.helpers.list.now c.in-Some.list.now c.in-Some.ensures.cases.0 c.args.helpers.known
 
-pub mul_quotient-requires-clause-round : goal.mul_quotient-requires-clause-round
-mul_quotient-requires-clause-round g t c =
-    let k-below = first_below c.args.q c.in-Some.k.now c.args.helpers.now c.in-Some.rest.now c.in-Some.ensures.cases.0 c.requires.helpers in
-    way_round c.args.q c.args.j c.in-Some.k.now c.way.result c.requires.prime c.requires.small c.requires.j k-below c.if-k-j.false c.way.ensures
+pub mul_quotient-requires-clause-some : goal.mul_quotient-requires-clause-some
+mul_quotient-requires-clause-some g t c =
+    let below = first_below c.args.helpers.scheme c.in-Some.k.now c.args.helpers.list.now c.in-Some.list.now c.in-Some.ensures.cases.0 c.args.helpers.known in
+    way_some c.args.helpers.scheme.q c.args.j c.in-Some.k.now c.way-d.result c.requires.j below c.if-k-j.false c.way-d.ensures
 
 pub returns : goal.returns
 returns g t c v =
     let G = g.G.Group.ops c.args.g.now in
     let L = g.met.G.Group.laws c.args.g.now in
-    let k-below = first_below c.args.q c.in-Some.k.now c.args.helpers.now c.in-Some.rest.now c.in-Some.ensures.cases.0 c.requires.helpers in
-    weight_more G L c.args.q c.args.p c.args.j c.in-Some.k.now c.args.helpers.now c.in-Some.rest.now c.args.m.now c.mul_weight-2.new.out c.mul_quotient.new.out
+    let s = c.args.helpers.scheme in
+    let k = c.in-Some.k.now in
+    let below = first_below s k c.args.helpers.list.now c.in-Some.list.now c.in-Some.ensures.cases.0 c.args.helpers.known in
+    weight_more G L s.q c.args.p c.args.j k c.args.helpers.list.now c.in-Some.list.now c.args.m.now c.mul_weight-2.new.out c.mul_quotient.new.out
     c.in-Some.ensures.cases.0 c.requires.m v (c.mul_weight-2.ensures v)
     (λ n vo.
-    factored G L c.args.q c.args.p c.args.j c.in-Some.k.now c.way.result c.way-2.result c.mul_weight-2.new.out c.mul_quotient.new.out
-    c.requires.prime c.requires.small k-below c.requires.p c.requires.j n vo c.if-k-j.false c.way.ensures c.way-2.ensures (c.mul_quotient.ensures vo))
+    factored G L s c.args.p c.args.j k c.way-d.result c.way-come.result c.mul_weight-2.new.out c.mul_quotient.new.out
+    below c.requires.p c.requires.j n vo c.if-k-j.false c.way-d.ensures c.way-come.ensures (c.mul_quotient.ensures vo))
