@@ -23,9 +23,6 @@ held g c =
     kept c.args.helpers.list.now (iter_rest (rev_source c.loop-j.j-iterator)) (iter_rest (rev_source c.next.new.self)) c.loop-j.invariant.0 c.in-Some.j.now
     c.loop-j.invariant.1 (search rules) (λ j. (1 ≤ j) × (j ≤ c.args.helpers.scheme.n)) 0 c.args.helpers.known
 
-pub overflow_sub-a : goal.overflow_sub-a
-overflow_sub-a g c = (held g (goal.at.overflow_sub-a g c).In-Some).0
-
 -- the row of the helper within the rows of all holders
 row_within : (j n w width rows : ℕ) → (1 ≤ j) × (j ≤ n) → width ≡ w → rows ≡ n * w → (j - 1) * width + w ≤ rows
 row_within j n w width rows h e f =
@@ -39,17 +36,6 @@ offset_bounds-shares-a g c =
       row_within c.in-Some.j.now c.args.helpers.scheme.n (c.args.helpers.scheme.q - 1) c.width-width.result (length c.args.shares.now)
           (held g (goal.at.offset_bounds-shares-a g c).In-Some) c.width-width.ensures c.requires.full,
     )
-
-pub slice_bounds-share-end : goal.slice_bounds-share-end
-slice_bounds-share-end g c =
-    omega (
-      arith,
-      row_within c.in-Some.j.now c.args.helpers.scheme.n (c.args.helpers.scheme.q - 1) c.width-width.result (length c.args.shares.now)
-          (held g (goal.at.slice_bounds-share-end g c).In-Some) c.width-width.ensures c.requires.full,
-    )
-
-pub mul_weight-requires-clause-j : goal.mul_weight-requires-clause-j
-mul_weight-requires-clause-j g c = omega (arith, (held g (goal.at.mul_weight-requires-clause-j g c).In-Some).1, c.args.helpers.scheme.above)
 
 pub loop-j-preserved : goal.loop-j-preserved
 loop-j-preserved g c =
