@@ -1,5 +1,5 @@
 -- The factors of a weight, and a walk for each of them.
-use Rattle.std.proofs.Common.{◌≡◌, ℕ, suc, ◌+◌, ◌-◌, ◌%◌, ◌<◌, ◌≤◌, T, eqb, List, [], ◌∷◌, length, get_or, sym, refl, ap, ◌∙◌, subst, mod-lt, arith}
+use Rattle.std.proofs.Common.{◌≡◌, ℕ, suc, ◌-◌, ◌%◌, ◌<◌, ◌≤◌, T, eqb, List, [], ◌∷◌, length, get_or, sym, refl, ap, ◌∙◌, subst, arith}
 use Rattle.std.proofs.lemmas.Bool.{cond_both, cond-true, cond-false, eq-eqb, ne_eqb, eqb-true, eqb-false}
 use Rattle.algebra.specs.Circle.{ahead, ComesRound, Quotient}
 use Rattle.algebra.specs.Group.{GroupOps, GroupLaws}
@@ -25,10 +25,7 @@ q_some s = omega (arith, s.above)
 pub comes_round : (s : Scheme) (d : ℕ) → 0 < d → d < s.q → ComesRound s.q d
 comes_round s d some below = (inverse_number s.q d, inverts s.q s.prime s.small d some below)
 
--- a way that was computed
-pub way_below : (q i j d : ℕ) → i < q → d ≡ ahead q i j → d < q
-way_below q i j d h e = subst (λ (x : ℕ). x < q) (sym e) (mod-lt (j + (q - i)) (omega arith))
-
+-- and there is some way between two places
 pub way_some : (q j k d : ℕ) → j < q → k < q → (k ≡ j → ⊥) → d ≡ ahead q j k → 0 < d
 way_some q j k d hj hk apart e = subst (λ (x : ℕ). 0 < x) (sym e) (ahead_some q j k hj hk apart)
 

@@ -1,16 +1,9 @@
-use Rattle.std.proofs.Common.{◌+◌, ◌-◌, rules}
+use Rattle.std.proofs.Common.{◌+◌, ◌-◌}
 use Rattle.algebra.specs.Dealing.{embedded}
 use Rattle.algebra.specs.Scalars.{act, point}
 use Rattle.algebra.specs.Tuples.{tuple_plus, list_ops}
-use Rattle.algebra.proofs.RowLists.{row_end}
 use Rattle.sharing.proofs.ShareRows.{row_changed}
 use Rattle.sharing.proofs.shares.change_row.Goals as goal
-
-pub offset_bounds-shares-start : goal.offset_bounds-shares-start
-offset_bounds-shares-start g c = let e = row_end c.args.h c.args.scheme.n (c.args.scheme.q - 1) c.requires.known in search rules
-
-pub slice_bounds-share-end : goal.slice_bounds-share-end
-slice_bounds-share-end g c = let e = row_end c.args.h c.args.scheme.n (c.args.scheme.q - 1) c.requires.known in search rules
 
 pub returns : goal.returns
 returns g c vs vk vv =
