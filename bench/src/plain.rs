@@ -96,7 +96,7 @@ pub struct Spare<G: Group> {
     other: Vec<G::Element>,
 }
 
-/// As the scheme defines them and the proved library computes them: a sum of powers of x is added up power by power.
+/// As the scheme defines them: a sum of powers of x is added up power by power.
 pub struct Terms;
 
 impl Multiply for Terms {
@@ -165,7 +165,7 @@ fn times_power<G: Group>(group: &G, k: usize, m: &[G::Element], out: &mut [G::El
     }
 }
 
-/// One walk around the circle of q places for each product.
+/// As the proved library does: one walk around the circle of q places for each product.
 pub struct Walk;
 
 impl Multiply for Walk {

@@ -5,19 +5,21 @@ use Rattle.std.specs.List.{AllByRecursion}
 use Rattle.std.proofs.ByRecursion.{All-weaker}
 use Rattle.std.proofs.lemmas.List.{length-take-le, length-drop}
 use Rattle.std.proofs.lemmas.Bool.{cond_both, ltb-true, ltb-false}
+use Rattle.algebra.specs.Circle.{inverse_around}
 use Rattle.algebra.specs.Group.{GroupOps, GroupLaws}
 use Rattle.algebra.specs.Module.{ModuleOps, ModuleLaws}
 use Rattle.algebra.specs.Tuples.{all_valid, tuple_zero, tuple_plus, ok, list_ops}
 use Rattle.algebra.specs.Valid.{cons_valid, zero_tuple_valid}
 use Rattle.algebra.specs.Space.{Tuple, tuple_ops, ok_of, zero_ok, plus_ok}
 use Rattle.algebra.specs.Scalars.{Scalar, minus, act, power, point, geometric}
-use Rattle.algebra.specs.Sharing.{less, difference_above, difference, value, repeat, terms, total}
+use Rattle.algebra.specs.Sharing.{less, difference_above, difference, inverse, value, repeat, terms, total}
 use Rattle.algebra.specs.Theorems.{Inverts, Distinct}
 use Rattle.algebra.specs.Primes.{inverse_number}
 use Rattle.algebra.specs.Rows.{rows, row_at}
 use Rattle.algebra.specs.Dealing.{embedded, dealt, weight_at, tuple_at, Interpolates, ZeroIsKey}
-use Rattle.algebra.proofs.Actions.{act_neg}
+use Rattle.algebra.proofs.Actions.{act_neg, act_nil}
 use Rattle.algebra.proofs.Points.{less_above, less_swap}
+use Rattle.algebra.proofs.Ways.{around_inverse}
 use Rattle.algebra.proofs.Polynomials.{terms_value}
 use Rattle.algebra.proofs.TupleModule.{tuple_sums, tuple_laws, act_list}
 use Rattle.algebra.proofs.RowLists.{take_valid, drop_valid, part_valid, row_before, length_rows}
@@ -63,6 +65,12 @@ module _ {C : Type 0} (G : GroupOps C) (L : GroupLaws G) (w : ℕ) where
   unfolding lifted
   value_list [] h z = refl
   value_list (r ∷ rs) h z = ap (tuple_plus G r) (act_list G L w z _ ∙ ap (act (list_ops G w) z) (value_list rs h.1 z))
+
+  pub value_one : (r : List C) → T (ok G w r) → (z : Scalar) → value (list_ops G w) (r ∷ []) z ≡ r
+  unfolding lifted
+  value_one r h z =
+      sym (value_list (r ∷ []) (h, tt) z)
+      ∙ ap (λ (a : Tuple G w). a.0) (ap ((tuple_ops G L w).add (r, h)) (act_nil (tuple_sums G L w) z) ∙ (tuple_sums G L w).add_nil (r, h))
 
   terms_lifted : (rs : List (List C)) (h : AllByRecursion (λ r. T (ok G w r)) rs) (n : ℕ) (z : Scalar) → (terms (tuple_ops G L w) (lifted rs h) n z).0 ≡ terms (list_ops G w) rs n z
   unfolding lifted
@@ -123,6 +131,10 @@ module _ {C : Type 0} (G : GroupOps C) (L : GroupLaws G) (w : ℕ) where
 module _ {C : Type 0} (G : GroupOps C) (L : GroupLaws G) (q : ℕ) (two : 2 ≤ q) where
   pub difference_less : (k j : ℕ) (m : List C) → T (ok G (q - 1) m) → act (list_ops G (q - 1)) (difference k j) m ≡ act (list_ops G (q - 1)) (less (point k) (point j)) m
   difference_less k j = act_equal G L (q - 1) (difference k j) (less (point k) (point j)) (across_less (tuple_sums G L (q - 1)) k j)
+
+  pub around_list : (inv : ℕ → ℕ) → Inverts q inv → (k j : ℕ) → k < q → j < q → (k ≡ j → ⊥) → (m : List C) → T (ok G (q - 1) m)
+      → act (list_ops G (q - 1)) (inverse_around q inv k j) m ≡ act (list_ops G (q - 1)) (inverse q inv k j) m
+  around_list inv inverts k j hk hj apart = act_equal G L (q - 1) (inverse_around q inv k j) (inverse q inv k j) (around_inverse (tuple_laws G L q two) inv inverts k j hk hj apart)
 
   pub weight_ok : (B : List ℕ) (p j n : ℕ) (shares : List C) → 1 ≤ j → j ≤ n → length shares ≡ n * (q - 1) → T (all_valid G shares) → T (ok G (q - 1) (act (list_ops G (q - 1)) (weight_at q B p j) (row_at (q - 1) (j - 1) shares)))
   weight_ok B p j n shares low high e h = act_ok G L (q - 1) (weight_at q B p j) _ (row_ok G L (q - 1) j n shares low high e h)

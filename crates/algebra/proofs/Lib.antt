@@ -9,4 +9,8 @@ pub mod Places
 pub mod RowLists
 pub mod PrimeNumbers
 pub mod Dealings
-pub mod Turning
+pub mod Ways
+pub mod Quotients
+pub mod Circles
+pub mod Around
+pub mod Walks

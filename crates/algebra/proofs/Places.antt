@@ -1,10 +1,10 @@
 -- What stands at a place of a tuple, and the step of a loop that writes a list place by place.
 use Rattle.std.proofs.Common.{◌≡◌, ℕ, zero, suc, ◌+◌, ◌-◌, ◌<◌, ◌≤◌, Bool, true, false, cond, not, T, List, [], ◌∷◌, ◌++◌, length, get_or, take, drop, set, Some, None, Option, sym, refl, ap, ◌∙◌, subst, le_of_suc-le-suc, not-suc-le-zero, add-zero, arith}
 use lib.ListN.{get_or-replicate}
-use Rattle.std.proofs.lemmas.List.{take_more, take_more_set, drop-set-lt, drop-drop, get_or-drop, get_or_read, get_or_default, take_all}
+use Rattle.std.proofs.lemmas.List.{take_more, take_more_set, drop-set-lt, drop-drop, get_or-drop, get_or_read, take_all}
 use Rattle.algebra.specs.Group.{GroupOps}
-use Rattle.algebra.specs.Tuples.{all_valid, invalid_at, tuple_zero, tuple_plus, tuple_minus, last, moved, times_x}
-use Rattle.algebra.specs.Valid.{both_of}
+use Rattle.algebra.specs.Tuples.{all_valid, invalid_at, tuple_zero, tuple_plus, tuple_minus, tuple_less, last, moved}
+use Rattle.algebra.specs.Valid.{both_of, length_minus}
 use Rattle.algebra.specs.Rows.{first_place}
 
 module _ {X : Type 0} where
@@ -96,19 +96,6 @@ module _ {C : Type 0} (G : GroupOps C) where
   pub minus_at : (xs : List C) (i : ℕ) (x v : C) → i < length xs → x ≡ get_or xs i x → v ≡ G.minus x → v ≡ get_or (tuple_minus G xs) i v
   minus_at xs i x v h p e = e ∙ ap G.minus (get_or_read xs i x h p v) ∙ sym (get_or_minus xs i v h)
 
-  pub times_first : (xs : List C) (e v : C) → 0 < length xs → e ≡ get_or xs (length xs - 1) e → v ≡ G.minus e → v ≡ get_or (times_x G xs) 0 v
-  times_first [] e v h p q = absurd (not-suc-le-zero h)
-  times_first (x ∷ xs) e v h p q =
-      let n : suc (length xs) - 1 ≡ length xs = omega arith in
-      q ∙ ap G.minus (p ∙ ap (λ (k : ℕ). get_or (x ∷ xs) k e) n ∙ get_or_last x xs e)
-
-  pub times_next : (xs : List C) (i : ℕ) (e a v : C) → 1 ≤ i → i < length xs → e ≡ get_or xs (length xs - 1) e → a ≡ get_or xs (i - 1) a → v ≡ G.plus a (G.minus e) → v ≡ get_or (times_x G xs) i v
-  times_next [] i e a v l h p q r = absurd (not-suc-le-zero h)
-  times_next (x ∷ xs) zero e a v l h p q r = absurd (not-suc-le-zero l)
-  times_next (x ∷ xs) (suc i) e a v l h p q r =
-      let n : suc (length xs) - 1 ≡ length xs = omega arith in
-      let j : suc i - 1 ≡ i = omega arith in
-      let k : i < suc (length xs) = omega arith in
-      let e' : e ≡ last x xs = p ∙ ap (λ (k : ℕ). get_or (x ∷ xs) k e) n ∙ get_or_last x xs e in
-      let a' : a ≡ get_or (x ∷ xs) i v = q ∙ ap (λ (k : ℕ). get_or (x ∷ xs) k a) j ∙ get_or_default (x ∷ xs) i a v k in
-      r ∙ ap (λ (z : C). G.plus z (G.minus e)) a' ∙ ap (λ (z : C). G.plus (get_or (x ∷ xs) i v) (G.minus z)) e' ∙ sym (get_or_moved (last x xs) x xs i v (le_of_suc-le-suc h))
+  pub less_at : (xs ys : List C) (i : ℕ) (x y v : C) → i < length xs → i < length ys → x ≡ get_or xs i x → y ≡ get_or ys i y → v ≡ G.plus x (G.minus y) → v ≡ get_or (tuple_less G xs ys) i v
+  less_at xs ys i x y v h k p q e =
+      plus_at xs (tuple_minus G ys) i x (G.minus y) v h (omega (arith, length_minus G ys)) p (minus_at ys i y (G.minus y) k q refl) e

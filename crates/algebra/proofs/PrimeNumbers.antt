@@ -1,11 +1,11 @@
 -- 31 is an odd prime, and modulo an odd prime up to 31 each number has its inverse: tests that antt computes, and what they say.
-use Rattle.std.proofs.Common.{◌≡◌, ℕ, zero, suc, ◌+◌, ◌*◌, ◌%◌, ◌<◌, ◌≤◌, Bool, true, false, cond, not, T, eqb, ltb, leb, refl, subst, inl, inr, not-suc-le-zero, arith, le→leb, eqb→eq, lt→ltb, leb→le, T_not}
+use Rattle.std.proofs.Common.{◌≡◌, ℕ, zero, suc, ◌*◌, ◌%◌, ◌<◌, ◌≤◌, Bool, true, false, cond, not, T, eqb, ltb, leb, refl, subst, inl, inr, not-suc-le-zero, arith, le→leb, eqb→eq, lt→ltb, leb→le, T_not}
 use lib.Dec.{eqb_refl, not_T}
-use Rattle.std.proofs.lemmas.Bool.{cases_lt, cond-true, cond-false, eq-eqb, ne_eqb}
+use Rattle.std.proofs.lemmas.Bool.{cases_lt}
 use Rattle.algebra.specs.Tuples.{both}
 use Rattle.algebra.specs.Valid.{both_left, both_right, both_of}
 use Rattle.algebra.specs.Theorems.{Inverts}
-use Rattle.algebra.specs.Primes.{Prime, OddPrime, NoneBetween, LeastOddPrime, inverse_from, inverse_number}
+use Rattle.algebra.specs.Primes.{Prime, OddPrime, NoneBetween, LeastOddPrime, inverse_number}
 
 -- the test passes at each number below n
 abbrev every : (ℕ → Bool) → ℕ → Bool
@@ -70,10 +70,3 @@ inverts q p h d above below =
     let found : T (every (inverse_test q) q) = where_true (prime_test q) (every (inverse_test q) q) (from_every inverses_test 32 tt q (omega arith)) (prime_passes q p.1) in
     eqb→eq ((d * inverse_number q d) % q) 1
     (where_true (ltb 0 d) (eqb ((d * inverse_number q d) % q) 1) (from_every (inverse_test q) q found d below) (lt→ltb 0 d above))
-
--- the steps of a loop that looks for the number
-pub inverse_found : (q d e k : ℕ) → (d * e) % q ≡ 1 → inverse_from q d e (suc k) ≡ e
-inverse_found q d e k h = cond-true _ _ _ (eq-eqb ((d * e) % q) 1 h)
-
-pub inverse_passed : (q d e k : ℕ) → ((d * e) % q ≡ 1 → ⊥) → inverse_from q d e (suc k) ≡ inverse_from q d (e + 1) k
-inverse_passed q d e k h = cond-false _ _ _ (ne_eqb ((d * e) % q) 1 h)

@@ -10,3 +10,4 @@ pub mod Primes
 pub mod Rows
 pub mod Dealing
 pub mod Turns
+pub mod Circle

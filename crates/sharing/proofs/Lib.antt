@@ -1,5 +1,4 @@
 pub mod Acting
-pub mod Indices
 pub mod Weights
 pub mod Horner
 pub mod Summing

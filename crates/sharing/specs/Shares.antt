@@ -13,6 +13,11 @@ use Rattle.sharing.specs.declared.shares.Change.TheVariants.{Add, Subtract}
 use Rattle.sharing.specs.Verdicts.{row, length_row}
 use Rattle.sharing.specs.Helpers.{helper_rows}
 
+-- an element with another added to it, or taken from it
+abbrev pub changed_element : {C : Type 0} → GroupOps C → Change → C → C → C
+changed_element G Add a b = G.plus a b
+changed_element G Subtract a b = G.plus a (G.minus b)
+
 -- a share with a tuple added to it, or taken from it
 abbrev pub changed : {C : Type 0} → GroupOps C → Change → List C → List C → List C
 changed G Add r ys = tuple_plus G r ys

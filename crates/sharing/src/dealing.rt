@@ -1,68 +1,69 @@
-ghost use Rattle.std.specs.Prelude.{◌≡◌, ◌-◌, ◌*◌, ◌<◌, T, length};
-ghost use Rattle.algebra.specs.Dealing.{embedded, dealt, tuple_at};
+ghost use Rattle.std.specs.Prelude.{◌≡◌, ◌-◌, ◌*◌, ◌/◌, ◌%◌, ◌<◌, ◌≤◌, T, length};
+ghost use Rattle.algebra.specs.Dealing.{embedded, tuple_at};
+ghost use Rattle.algebra.specs.Rows.{rows};
 ghost use Rattle.algebra.specs.Scalars.{act, point};
+ghost use Rattle.algebra.specs.Sharing.{value as value_at};
 ghost use Rattle.algebra.specs.Tuples.{all_valid, tuple_plus, list_ops};
+ghost use Rattle.sharing.specs.Shares.{changed};
 
 use crate::helpers::Helpers;
-use crate::points::{mul_geometric, mul_weight};
+use crate::points::{change_element, change_point, mul_weight};
 use crate::scheme::Scheme;
+use crate::shares::Change;
 use crate::tuples::{add_into, fill_zero};
 use groups::group::Group;
 
-// Writes (key, 0, .., 0) to `out`.
-pub(crate) fn embed<G: Group>(g: &G, key: G::Element, out: &mut [G::Element])
-    requires { 0 < length out.old }
-    ensures { out.new ≡ embedded (G.ops g.now) (length out.old) key }
-{
-    fill_zero(g, out);
-    out[0] = key;
-}
-
-// Multiplies `out` by the point i, by way of two tuples of `scratch`, and adds `from`.
-pub(crate) fn mul_point_add<G: Group>(
-    g: &G,
-    i: usize,
-    from: &[G::Element],
-    out: &mut [G::Element],
-    scratch: &mut [G::Element],
-)
-    requires from { length from.now ≡ length out.old }
-    requires room { length scratch.old ≡ 2 * length out.old }
-    ensures { T (all_valid (G.ops g.now) from.now) → T (all_valid (G.ops g.now) out.old) → out.new ≡ tuple_plus (G.ops g.now) from.now (act (list_ops (G.ops g.now) (length out.old)) (point i) out.old) }
-{
-    let (product, tmp) = scratch.split_at_mut(out.len());
-    mul_geometric(g, 1, i, out, product, tmp);
-    out.copy_from_slice(from);
-    add_into(g, out, product);
-}
-
-// Writes what the holder i is dealt of the key to `out`, by way of two tuples of `scratch`.
-pub(crate) fn deal_into<G: Group>(
+// Writes c1 + a c2 + a^2 c3 + .. to `out`, by way of `other`, where a is the point i and c1, c2, ..
+// are the rows of `coefficients`, one at least.
+//
+// It calls itself with the two tuples' parts changed, so that no value is copied.
+pub(crate) fn evaluate<G: Group>(
     g: &G,
     scheme: Scheme,
     i: usize,
-    key: G::Element,
     coefficients: &[G::Element],
     out: &mut [G::Element],
-    scratch: &mut [G::Element],
+    other: &mut [G::Element],
 )
-    requires full { length coefficients.now ≡ (scheme.t - 1) * (scheme.q - 1) }
+    requires some { 1 ≤ i }
+    requires below { i < scheme.q }
+    requires one { scheme.q - 1 ≤ length coefficients.now }
+    requires whole { length coefficients.now % (scheme.q - 1) ≡ 0 }
     requires out { length out.old ≡ scheme.q - 1 }
-    requires room { length scratch.old ≡ 2 * (scheme.q - 1) }
-    ensures { T ((G.ops g.now).valid key) → T (all_valid (G.ops g.now) coefficients.now) → out.new ≡ dealt (G.ops g.now) (scheme.q - 1) i key (scheme.t - 1) coefficients.now }
+    requires other { length other.old ≡ scheme.q - 1 }
+    ensures { T (all_valid (G.ops g.now) coefficients.now) → out.new ≡ value_at (list_ops (G.ops g.now) (scheme.q - 1)) (rows (scheme.q - 1) (length coefficients.now / (scheme.q - 1)) coefficients.now) (point i) }
 {
-    let width = scheme.width();
-    fill_zero(g, out);
-    for row in coefficients.rchunks_exact(width) {
-        mul_point_add(g, i, row, out, scratch);
+    let (first, rest) = coefficients.split_at(scheme.width());
+    if rest.is_empty() {
+        out.copy_from_slice(first);
+        return;
     }
-    let (product, tmp) = scratch.split_at_mut(width);
-    mul_geometric(g, 1, i, out, product, tmp);
-    embed(g, key, out);
-    add_into(g, out, product);
+    evaluate(g, scheme, i, rest, other, out);
+    out.copy_from_slice(first);
+    change_point(g, scheme, Change::Add, i, other, out);
 }
 
-// Writes the tuple that the helpers' shares give at the point p to `out`, by way of three tuples of
+// Adds a key and the point i times `value` to a share, or takes them from it.
+pub(crate) fn change_share<G: Group>(
+    g: &G,
+    scheme: Scheme,
+    change: Change,
+    i: usize,
+    key: G::Element,
+    value: &[G::Element],
+    share: &mut [G::Element],
+)
+    requires some { 1 ≤ i }
+    requires below { i < scheme.q }
+    requires value { length value.now ≡ scheme.q - 1 }
+    requires share { length share.old ≡ scheme.q - 1 }
+    ensures { T ((G.ops g.now).valid key) → T (all_valid (G.ops g.now) value.now) → T (all_valid (G.ops g.now) share.old) → share.new ≡ changed (G.ops g.now) change share.old (tuple_plus (G.ops g.now) (embedded (G.ops g.now) (scheme.q - 1) key) (act (list_ops (G.ops g.now) (scheme.q - 1)) (point i) value.now)) }
+{
+    change_point(g, scheme, change, i, value, share);
+    share[0] = change_element(g, change, share[0], key);
+}
+
+// Writes the tuple that the helpers' shares give at the point p to `out`, by way of two tuples of
 // `scratch`.
 pub(crate) fn interpolate<G: Group>(
     g: &G,
@@ -79,12 +80,14 @@ pub(crate) fn interpolate<G: Group>(
 {
     let width = helpers.scheme.width();
     let (term, rest) = scratch.split_at_mut(width);
+    let (other, _) = rest.split_at_mut(width);
+    let turned = p % helpers.scheme.q;
     fill_zero(g, out);
     for j in helpers.list.iter().rev() {
         let j = *j as usize;
         let a = (j - 1) * width;
-        term.copy_from_slice(&shares[a..a + width]);
-        mul_weight(g, helpers, p, j, term, rest);
+        let share = &shares[a..a + width];
+        mul_weight(g, helpers, turned, j, share, term, other);
         add_into(g, out, term);
     }
 }

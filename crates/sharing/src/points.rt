@@ -1,171 +1,160 @@
-ghost use Rattle.std.specs.Prelude.{◌≡◌, ◌+◌, ◌-◌, ◌*◌, ◌<◌, ◌≤◌, T, length, slice_index_or};
+ghost use Rattle.std.specs.Prelude.{◌≡◌, ◌+◌, ◌-◌, ◌%◌, ◌<◌, ◌≤◌, T, List, length, slice_index_or};
+ghost use Rattle.algebra.specs.Circle.{ahead, Quotient};
 ghost use Rattle.algebra.specs.Dealing.{weight_at};
-ghost use Rattle.algebra.specs.Primes.{inverse_number};
-ghost use Rattle.algebra.specs.Scalars.{times, act, power, point, geometric};
-ghost use Rattle.algebra.specs.Sharing.{difference, inverse, factor};
-ghost use Rattle.algebra.specs.Tuples.{all_valid, list_ops};
-ghost use Rattle.algebra.specs.Turns.{turned_from};
+ghost use Rattle.algebra.specs.Scalars.{act, point};
+ghost use Rattle.algebra.specs.Tuples.{all_valid, ok, list_ops};
+ghost use Rattle.sharing.specs.Shares.{changed_element, changed};
 
 use crate::helpers::Helpers;
 use crate::scheme::Scheme;
-use crate::tuples::{add_into, fill_zero, negate, write_each};
+use crate::shares::Change;
 use groups::group::Group;
 
-// What comes to the place i where `m` and one zero after it make a turn by k places.
-fn turned<G: Group>(g: &G, k: usize, m: &[G::Element], i: usize) -> G::Element
-    requires turn { k ≤ length m.now + 1 }
-    requires place { i ≤ length m.now }
-    ensures { result ≡ slice_index_or m.now (turned_from (length m.now) k i) (G.ops g.now).zero }
+// The place d on from i, on a circle of q places.
+fn onward(q: usize, i: usize, d: usize) -> usize
+    requires place { i < q }
+    requires way { d < q }
+    ensures { result ≡ (i + d) % q }
 {
-    let from = if i < k { m.len() - (k - i - 1) } else { i - k };
-    m.get(from).copied().unwrap_or(g.zero())
+    let rest = q - d;
+    if i < rest { i + d } else { i - rest }
 }
 
-// Multiplies `m` by x^k, by way of `tmp`: a turn by k places, less what comes to the zero's.
-pub(crate) fn mul_power<G: Group>(g: &G, k: usize, m: &mut [G::Element], tmp: &mut [G::Element])
-    requires turn { k ≤ length m.old + 1 }
-    requires tmp { length tmp.old ≡ length m.old }
-    ensures { T (all_valid (G.ops g.now) m.old) → m.new ≡ act (list_ops (G.ops g.now) (length m.old)) (power k) m.old }
+// The way from the place i on to the place j, on a circle of q places.
+fn way(q: usize, i: usize, j: usize) -> usize
+    requires from { i < q }
+    requires to { j < q }
+    ensures { result ≡ ahead q i j }
 {
-    let back = g.negative(turned(g, k, m, m.len()));
-    write_each(tmp, |i, _| g.sum(turned(g, k, m, i), back));
-    m.copy_from_slice(tmp);
+    if j < i { q - i + j } else { j - i }
 }
 
-// Writes 1 + x^d + .. + x^(d(e-1)) times `m` to `out`, by way of `tmp`.
-pub(crate) fn mul_geometric<G: Group>(
+// What stands at the place i, where one zero stands after `m`.
+fn place<G: Group>(g: &G, m: &[G::Element], i: usize) -> G::Element
+    ensures { result ≡ slice_index_or m.now i (G.ops g.now).zero }
+{
+    m.get(i).copied().unwrap_or(g.zero())
+}
+
+// What stands i places before s on the circle of q places.
+fn behind<G: Group>(g: &G, q: usize, m: &[G::Element], s: usize, i: usize) -> G::Element
+    requires m { length m.now ≡ q - 1 }
+    requires s { s < q - 1 }
+    requires some { 1 ≤ i }
+    requires below { i < q }
+    ensures { result ≡ slice_index_or m.now ((s + (q - i)) % q) (G.ops g.now).zero }
+{
+    if s < i {
+        place(g, m, s + (q - i))
+    } else {
+        m[s - i]
+    }
+}
+
+// Writes to `out` the tuple that times 1 - x^d is x^a - x^d times `m` on a circle of q places, where
+// there is one; a and `come` make a whole turn.
+//
+// It walks around in steps of d from the zero's place: each step adds what comes in and takes away
+// what stood there before, so that a sum of many powers of x costs one pass.
+fn mul_quotient<G: Group>(
     g: &G,
+    scheme: Scheme,
     d: usize,
-    e: usize,
+    come: usize,
     m: &[G::Element],
     out: &mut [G::Element],
-    tmp: &mut [G::Element],
 )
-    requires turn { d ≤ length m.now + 1 }
-    requires out { length out.old ≡ length m.now }
-    requires tmp { length tmp.old ≡ length m.now }
-    ensures { T (all_valid (G.ops g.now) m.now) → out.new ≡ act (list_ops (G.ops g.now) (length m.now)) (geometric d e) m.now }
+    requires some { 0 < d }
+    requires d { d < scheme.q }
+    requires come { come < scheme.q }
+    requires m { length m.now ≡ scheme.q - 1 }
+    requires out { length out.old ≡ scheme.q - 1 }
+    ensures { T (all_valid (G.ops g.now) m.now) → (r : List G.Element) → T (ok (G.ops g.now) (scheme.q - 1) r) → Quotient (G.ops g.now) scheme.q d come (scheme.q - d) m.now r → out.new ≡ r }
 {
-    fill_zero(g, out);
-    // The proof alone reads how many turns are done.
-    for done in 0..e {
-        mul_power(g, d, out, tmp);
-        add_into(g, out, m);
+    let mut to = scheme.q - 1;
+    let mut less = g.zero();
+    let mut sum = g.zero();
+    // The proof alone reads how many steps are done.
+    for done in 0..m.len() {
+        to = onward(scheme.q, to, d);
+        let more = place(g, m, onward(scheme.q, to, come));
+        sum = g.sum(sum, g.difference(more, less));
+        less = m[to];
+        out[to] = sum;
     }
 }
 
-// Multiplies `m` by x^a (1 + x^d + .. + x^(d(e-1))), by way of two tuples of `scratch`.
+// `b` added to `a`, or taken from it.
+pub(crate) fn change_element<G: Group>(
+    g: &G,
+    change: Change,
+    a: G::Element,
+    b: G::Element,
+) -> G::Element
+    ensures { T ((G.ops g.now).valid a) → T ((G.ops g.now).valid b) → result ≡ changed_element (G.ops g.now) change a b }
+{
+    match change {
+        Change::Add => g.sum(a, b),
+        Change::Subtract => g.difference(a, b),
+    }
+}
+
+// Adds the point i times `m` to `to`, or takes it from `to`.
+pub(crate) fn change_point<G: Group>(
+    g: &G,
+    scheme: Scheme,
+    change: Change,
+    i: usize,
+    m: &[G::Element],
+    to: &mut [G::Element],
+)
+    requires some { 1 ≤ i }
+    requires below { i < scheme.q }
+    requires m { length m.now ≡ scheme.q - 1 }
+    requires to { length to.old ≡ scheme.q - 1 }
+    ensures { T (all_valid (G.ops g.now) m.now) → T (all_valid (G.ops g.now) to.old) → to.new ≡ changed (G.ops g.now) change to.old (act (list_ops (G.ops g.now) (scheme.q - 1)) (point i) m.now) }
+{
+    let mut sum = g.zero();
+    // By index, since after `iter_mut` a proof knows the length and no element.
+    for s in 0..m.len() {
+        let less = behind(g, scheme.q, m, s, i);
+        sum = g.sum(sum, g.difference(m[s], less));
+        to[s] = change_element(g, change, to[s], sum);
+    }
+}
+
+// Writes the weight of j among the helpers at the point p times `m` to `out`, by way of `other`.
 //
-// One slice and no struct of tuples: a slice keeps its length over a call with no clause for it.
-pub(crate) fn mul_term<G: Group>(
-    g: &G,
-    a: usize,
-    d: usize,
-    e: usize,
-    m: &mut [G::Element],
-    scratch: &mut [G::Element],
-)
-    requires turn { a ≤ length m.old + 1 }
-    requires turns { d ≤ length m.old + 1 }
-    requires room { length scratch.old ≡ 2 * length m.old }
-    ensures { T (all_valid (G.ops g.now) m.old) → m.new ≡ act (list_ops (G.ops g.now) (length m.old)) (times (power a) (geometric d e)) m.old }
-{
-    let (product, tmp) = scratch.split_at_mut(m.len());
-    mul_geometric(g, d, e, m, product, tmp);
-    m.copy_from_slice(product);
-    mul_power(g, a, m, tmp);
-}
-
-// Multiplies `m` by the point k less the point j, by way of two tuples of `scratch`.
-pub(crate) fn mul_difference<G: Group>(
-    g: &G,
-    k: usize,
-    j: usize,
-    m: &mut [G::Element],
-    scratch: &mut [G::Element],
-)
-    requires turn { k ≤ length m.old + 1 }
-    requires room { length scratch.old ≡ 2 * length m.old }
-    ensures { T (all_valid (G.ops g.now) m.old) → m.new ≡ act (list_ops (G.ops g.now) (length m.old)) (difference k j) m.old }
-{
-    mul_term(g, k.min(j), 1, k.abs_diff(j), m, scratch);
-    if j < k {
-        return;
-    }
-    negate(g, m);
-}
-
-// The number from 1 to q - 1 that times d is one more than a multiple of q; 0 where there is none.
-pub(crate) fn inverse_number(scheme: Scheme, d: usize) -> usize
-    requires { d < scheme.q }
-    ensures { result ≡ inverse_number scheme.q d }
-{
-    (1..scheme.q).find(|e| d * *e % scheme.q == 1).unwrap_or(0)
-}
-
-// Multiplies `m` by the inverse of the point k less the point j, by way of two tuples of `scratch`.
-pub(crate) fn mul_inverse<G: Group>(
-    g: &G,
-    scheme: Scheme,
-    k: usize,
-    j: usize,
-    m: &mut [G::Element],
-    scratch: &mut [G::Element],
-)
-    requires k { k < scheme.q }
-    requires j { j < scheme.q }
-    requires m { length m.old ≡ scheme.q - 1 }
-    requires room { length scratch.old ≡ 2 * length m.old }
-    ensures { T (all_valid (G.ops g.now) m.old) → m.new ≡ act (list_ops (G.ops g.now) (length m.old)) (inverse scheme.q (inverse_number scheme.q) k j) m.old }
-{
-    let d = k.abs_diff(j);
-    let e = inverse_number(scheme, d);
-    mul_term(g, scheme.q - k.min(j), d, e, m, scratch);
-    if j < k {
-        return;
-    }
-    negate(g, m);
-}
-
-// Multiplies `m` by k's part in the weight of j at the point p, by way of two tuples of `scratch`.
-pub(crate) fn mul_factor<G: Group>(
-    g: &G,
-    scheme: Scheme,
-    k: usize,
-    p: usize,
-    j: usize,
-    m: &mut [G::Element],
-    scratch: &mut [G::Element],
-)
-    requires k { k < scheme.q }
-    requires j { j < scheme.q }
-    requires m { length m.old ≡ scheme.q - 1 }
-    requires room { length scratch.old ≡ 2 * (scheme.q - 1) }
-    ensures { T (all_valid (G.ops g.now) m.old) → m.new ≡ act (list_ops (G.ops g.now) (length m.old)) (factor point (inverse scheme.q (inverse_number scheme.q)) (point p) j k) m.old }
-{
-    if k == j {
-        return;
-    }
-    mul_inverse(g, scheme, k, j, m, scratch);
-    mul_difference(g, k, p, m, scratch);
-}
-
-// Multiplies `m` by the weight of j among the helpers at the point p, by way of two tuples of
-// `scratch`.
+// It calls itself with the two tuples' parts changed, so that no product is copied.
 pub(crate) fn mul_weight<G: Group>(
     g: &G,
     helpers: Helpers,
     p: usize,
     j: usize,
-    m: &mut [G::Element],
-    scratch: &mut [G::Element],
+    m: &[G::Element],
+    out: &mut [G::Element],
+    other: &mut [G::Element],
 )
+    requires p { p < helpers.scheme.q }
     requires j { j < helpers.scheme.q }
-    requires m { length m.old ≡ helpers.scheme.q - 1 }
-    requires room { length scratch.old ≡ 2 * (helpers.scheme.q - 1) }
-    ensures { T (all_valid (G.ops g.now) m.old) → m.new ≡ act (list_ops (G.ops g.now) (helpers.entry.scheme.q - 1)) (weight_at helpers.entry.scheme.q helpers.entry.list.now p j) m.old }
+    requires m { length m.now ≡ helpers.scheme.q - 1 }
+    requires out { length out.old ≡ helpers.scheme.q - 1 }
+    requires other { length other.old ≡ helpers.scheme.q - 1 }
+    ensures { T (all_valid (G.ops g.now) m.now) → out.new ≡ act (list_ops (G.ops g.now) (helpers.entry.scheme.q - 1)) (weight_at helpers.entry.scheme.q helpers.entry.list.now p j) m.now }
 {
-    for k in helpers.list.iter().rev() {
-        mul_factor(g, helpers.scheme, *k as usize, p, j, m, scratch);
+    let scheme = helpers.scheme;
+    let Some((k, list)) = helpers.list.split_first() else {
+        out.copy_from_slice(m);
+        return;
+    };
+    let k = *k as usize;
+    let rest = Helpers { scheme, list };
+    if k == j {
+        mul_weight(g, rest, p, j, m, out, other);
+        return;
     }
+    mul_weight(g, rest, p, j, m, other, out);
+    let d = way(scheme.q, j, k);
+    let come = way(scheme.q, p, j);
+    mul_quotient(g, scheme, d, come, other, out);
 }

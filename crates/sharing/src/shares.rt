@@ -1,16 +1,16 @@
 ghost use Rattle.std.specs.Prelude.{◌≡◌, ◌+◌, ◌-◌, ◌*◌, ◌<◌, ◌≤◌, T, ◌++◌, length, MatchResult, OnOk};
-ghost use Rattle.algebra.specs.Tuples.{all_valid};
+ghost use Rattle.algebra.specs.Scalars.{act, point};
+ghost use Rattle.algebra.specs.Tuples.{all_valid, tuple_plus, list_ops};
 ghost use Rattle.algebra.specs.Rows.{row_at, put_row};
-ghost use Rattle.algebra.specs.Dealing.{dealt, tuple_at};
+ghost use Rattle.algebra.specs.Dealing.{embedded, dealt, tuple_at};
 ghost use Rattle.sharing.specs.Verdicts.{first, verdict};
 ghost use Rattle.sharing.specs.Shares.{changed, length_rows, dealing_rows, tuple_rows, Interpolated};
 
-use crate::dealing::{deal_into, interpolate};
+use crate::dealing::{change_share, evaluate, interpolate};
 use crate::fault::CabinetFault;
 use crate::helpers::{Helpers, check_holder};
 use crate::lengths::check_count;
 use crate::scheme::Scheme;
-use crate::tuples::{add_into, subtract_into};
 use groups::group::Group;
 
 // Whether what is dealt is added to a share or taken from it.
@@ -54,34 +54,26 @@ fn check_tuple<'a>(
     Helpers::new(scheme, helpers)
 }
 
-// Adds `from` to `to`, or takes it from `to`.
-fn change_into<G: Group>(group: &G, change: Change, to: &mut [G::Element], from: &[G::Element])
-    requires { length from.now ≡ length to.old }
-    ensures { T (all_valid (G.ops group.now) to.old) → T (all_valid (G.ops group.now) from.now) → to.new ≡ changed (G.ops group.now) change to.old from.now }
-{
-    match change {
-        Change::Add => add_into(group, to, from),
-        Change::Subtract => subtract_into(group, to, from),
-    }
-}
-
-// Adds a tuple to the row h of the share memory, or takes it from that row, and leaves the other
-// rows.
+// Adds a key and the point h + 1 times `value` to the row h of the share memory, or takes them from
+// that row, and leaves the other rows.
 fn change_row<G: Group>(
     group: &G,
+    scheme: Scheme,
     change: Change,
-    width: usize,
     h: usize,
-    tuple: &[G::Element],
+    key: G::Element,
+    value: &[G::Element],
     shares: &mut [G::Element],
 )
-    requires tuple { length tuple.now ≡ width }
-    requires within { h * width + width ≤ length shares.old }
-    ensures { T (all_valid (G.ops group.now) shares.old) → T (all_valid (G.ops group.now) tuple.now) → shares.new ≡ put_row width h (changed (G.ops group.now) change (row_at width h shares.old) tuple.now) shares.old }
+    requires known { h < scheme.n }
+    requires full { length shares.old ≡ scheme.n * (scheme.q - 1) }
+    requires value { length value.now ≡ scheme.q - 1 }
+    ensures { T (all_valid (G.ops group.now) shares.old) → T ((G.ops group.now).valid key) → T (all_valid (G.ops group.now) value.now) → shares.new ≡ put_row (scheme.q - 1) h (changed (G.ops group.now) change (row_at (scheme.q - 1) h shares.old) (tuple_plus (G.ops group.now) (embedded (G.ops group.now) (scheme.q - 1) key) (act (list_ops (G.ops group.now) (scheme.q - 1)) (point (h + 1)) value.now))) shares.old }
 {
+    let width = scheme.q - 1;
     let start = h * width;
-    let row = &mut shares[start..start + width];
-    change_into(group, change, row, tuple);
+    let share = &mut shares[start..start + width];
+    change_share(group, scheme, change, h + 1, key, value, share);
 }
 
 // Adds to the row h of the share memory what its holder is dealt, or takes that from it.
@@ -102,9 +94,10 @@ fn deal_row<G: Group>(
     ensures { T (all_valid (G.ops group.now) shares.old) → T ((G.ops group.now).valid key) → T (all_valid (G.ops group.now) coefficients.now) → shares.new ≡ put_row (scheme.q - 1) h (changed (G.ops group.now) change (row_at (scheme.q - 1) h shares.old) (dealt (G.ops group.now) (scheme.q - 1) (h + 1) key (scheme.t - 1) coefficients.now)) shares.old }
 {
     let width = scheme.width();
-    let (out, rest) = scratch.split_at_mut(width);
-    deal_into(group, scheme, h + 1, key, coefficients, out, rest);
-    change_row(group, change, width, h, out, shares);
+    let (value, rest) = scratch.split_at_mut(width);
+    let (other, _) = rest.split_at_mut(width);
+    evaluate(group, scheme, h + 1, coefficients, value, other);
+    change_row(group, scheme, change, h, key, value, shares);
 }
 
 // Adds to a holder's share what dealing the key with these coefficients gives that holder, or takes

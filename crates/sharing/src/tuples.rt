@@ -1,6 +1,6 @@
 ghost use Rattle.std.specs.Prelude.{◌≡◌, ℕ, ◌<◌, T, length, slice_index_or};
 ghost use Rattle.algebra.specs.Rows.{first_place};
-ghost use Rattle.algebra.specs.Tuples.{all_valid, invalid_at, tuple_zero, tuple_plus, tuple_minus, tuple_less};
+ghost use Rattle.algebra.specs.Tuples.{all_valid, invalid_at, tuple_zero, tuple_plus};
 
 use groups::group::Group;
 
@@ -36,19 +36,4 @@ pub(crate) fn add_into<G: Group>(g: &G, to: &mut [G::Element], from: &[G::Elemen
     ensures { T (all_valid (G.ops g.now) to.old) → T (all_valid (G.ops g.now) from.now) → to.new ≡ tuple_plus (G.ops g.now) to.old from.now }
 {
     write_each(to, |i, x| g.sum(x, from[i]));
-}
-
-// Takes `from` from `to`.
-pub(crate) fn subtract_into<G: Group>(g: &G, to: &mut [G::Element], from: &[G::Element])
-    requires { length from.now ≡ length to.old }
-    ensures { T (all_valid (G.ops g.now) to.old) → T (all_valid (G.ops g.now) from.now) → to.new ≡ tuple_less (G.ops g.now) to.old from.now }
-{
-    write_each(to, |i, x| g.difference(x, from[i]));
-}
-
-// Turns each element into its negative.
-pub(crate) fn negate<G: Group>(g: &G, to: &mut [G::Element])
-    ensures { T (all_valid (G.ops g.now) to.old) → to.new ≡ tuple_minus (G.ops g.now) to.old }
-{
-    write_each(to, |_, x| g.negative(x));
 }

@@ -1,9 +1,0 @@
-use Rattle.std.proofs.Common.{rules, arith}
-use Rattle.std.proofs.lemmas.Grind.{elements}
-use Rattle.sharing.proofs.Writing.{less_written}
-use Rattle.sharing.proofs.tuples.subtract_into.Goals as goal
-
-pub returns : goal.returns
-returns g c v w =
-    less_written (g.G.Group.ops c.args.g.now) c.args.to.now c.write_each.new.to (omega arith) v c.args.from.now c.requires w
-    (λ k d l p q. let e = c.write_each.ensures k d l in search (rules, elements))
