@@ -1,157 +1,97 @@
--- What a holder is dealt, as the code computes it.
-use Rattle.std.proofs.Common.{◌≡◌, ℕ, suc, ◌+◌, ◌-◌, ◌*◌, ◌/◌, ◌%◌, ◌<◌, ◌≤◌, T, List, [], ◌∷◌, length, get_or, take, drop, set, sym, refl, ap, ◌∙◌, subst, ap₂, inl, inr, mod-eq_of_lt, suc-mul, arith}
-use Rattle.std.proofs.Math.Nat.{add-mod_right, add-div_right}
-use Rattle.std.proofs.lemmas.Nat.{div-add-mod'}
+-- What a holder is dealt, from the last coefficient to the first.
+use Rattle.std.proofs.Common.{◌≡◌, ℕ, suc, ◌+◌, ◌*◌, ◌%◌, ◌<◌, T, List, [], ◌∷◌, ◌++◌, length, sym, ap, ◌∙◌, ap₂, subst, inl, inr, suc-mul, arith}
+use Rattle.std.proofs.Math.Nat.{add-mod_right, mul-mod_left}
 use Rattle.std.proofs.lemmas.Bool.{cases_lt}
-use Rattle.std.proofs.lemmas.List.{length-take-le, length-drop, get_or_read, get_or_past, get_or_default}
-use Rattle.algebra.specs.Circle.{around}
+use Rattle.std.proofs.lemmas.List.{append_assoc, length-append, take_at, drop_at, take_all, nil_from_length}
 use Rattle.algebra.specs.Group.{GroupOps, GroupLaws}
-use Rattle.algebra.specs.Tuples.{all_valid, tuple_zero, tuple_plus, tuple_minus, ok, list_ops}
-use Rattle.algebra.specs.Valid.{head_valid, tail_valid, less_valid, valid_read, length_plus, length_minus}
-use Rattle.algebra.specs.Space.{ok_of, ok_valid, ok_length}
+use Rattle.algebra.specs.Tuples.{all_valid, tuple_plus, list_ops}
+use Rattle.algebra.specs.Valid.{head_valid, tail_valid, cons_valid, plus_tuple_valid}
+use Rattle.algebra.specs.Space.{ok_of}
 use Rattle.algebra.specs.Scalars.{act, point}
 use Rattle.algebra.specs.Sharing.{value}
 use Rattle.algebra.specs.Rows.{rows}
 use Rattle.algebra.specs.Dealing.{embedded, dealt}
-use Rattle.algebra.proofs.Around.{part_valid, plus_last, less_last, point_is}
-use Rattle.algebra.proofs.Places.{take_step, take_end, plus_at, less_at}
-use Rattle.algebra.proofs.Walks.{walk_sum}
-use Rattle.algebra.proofs.TupleModule.{zero_tuple_plus}
-use Rattle.algebra.proofs.RowLists.{take_valid, drop_valid}
-use Rattle.algebra.proofs.Dealings.{act_ok, value_one, value_ok, rows_ok, dealt_value}
-use Rattle.sharing.specs.declared.shares.Change.{Change}
-use Rattle.sharing.specs.declared.shares.Change.TheVariants.{Add, Subtract}
-use Rattle.sharing.specs.Shares.{changed_element, changed}
-use Rattle.sharing.proofs.Acting.{as_valid}
+use Rattle.algebra.proofs.RowLists.{row_end}
+use Rattle.algebra.proofs.Dealings.{value_one, dealt_value}
+use Rattle.sharing.proofs.Acting.{as_valid, act_valid}
 
--- a elements are whole rows of w, and b are left after the first row
-module _ (w a b : ℕ) (wide : 0 < w) (split : b + w ≡ a) where
-  pub rows_less : a / w ≡ b / w + 1
-  rows_less = ap (λ (z : ℕ). z / w) (sym split) ∙ add-div_right b wide
+module _ {C : Type 0} (G : GroupOps C) (w i : ℕ) where
+  -- the value at the point i of k rows of coefficients
+  abbrev pub value_of : ℕ → List C → List C
+  value_of k cs = value (list_ops G w) (rows w k cs) (point i)
 
-  pub rest_whole : a % w ≡ 0 → b % w ≡ 0
-  rest_whole e = sym (add-mod_right b w) ∙ ap (λ (z : ℕ). z % w) split ∙ e
-
-  pub rest_long : a % w ≡ 0 → (b ≡ 0 → ⊥) → w ≤ b
-  rest_long e some = elim (cases_lt b w) [ inl l ↦ absurd (some (sym (mod-eq_of_lt l) ∙ rest_whole e)) | inr l ↦ l ]
-
-pub rows_within : (w a : ℕ) → a / w * w ≤ a
-rows_within w a = omega (arith, div-add-mod' a w)
+  -- `out` is the value of the rows that are done, the last k
+  pub record Dealt (cs rest out : List C) : Type 0 where
+    pub done : List C
+    pub k : ℕ
+    pub all : cs ≡ rest ++ done
+    pub count : length done ≡ k * w
+    pub same : T (all_valid G cs) → (out ≡ value_of k done) × T (all_valid G out)
 
 module _ {C : Type 0} (G : GroupOps C) (L : GroupLaws G) where
-  -- a tuple that was changed by ys, and then its first element by a key
-  pub key_changed : (d : Change) (w : ℕ) (k x y : C) (xs ys after : List C) → 0 < w → length xs ≡ w → length ys ≡ w → T (G.valid k) → T (all_valid G xs) → T (all_valid G ys)
-      → after ≡ changed G d xs ys → y ≡ get_or after 0 y → (T (G.valid y) → T (G.valid k) → x ≡ changed_element G d y k)
-      → set after 0 x ≡ changed G d xs (tuple_plus G (embedded G w k) ys)
-  key_changed d w k x y [] ys after some n m vk v u e r f = absurd (omega arith)
-  key_changed d w k x y (a ∷ xs) [] after some n m vk v u e r f = absurd (omega arith)
-  key_changed d w k x y (a ∷ xs) (b ∷ ys) after some n m vk v u e r f =
-      ap (λ (l : List C). set l 0 x) e ∙ go d (r ∙ ap (λ (l : List C). get_or l 0 y) e) f
-    where
-      va : T (G.valid a)
-      va = head_valid G a xs v
+  front_valid : (xs ys : List C) → T (all_valid G (xs ++ ys)) → T (all_valid G xs)
+  front_valid [] ys h = tt
+  front_valid (x ∷ xs) ys h = cons_valid G x xs (head_valid G x (xs ++ ys) h) (front_valid xs ys (tail_valid G x (xs ++ ys) h))
 
-      vb : T (G.valid b)
-      vb = head_valid G b ys u
+  back_valid : (xs ys : List C) → T (all_valid G (xs ++ ys)) → T (all_valid G ys)
+  back_valid [] ys h = h
+  back_valid (x ∷ xs) ys h = back_valid xs ys (tail_valid G x (xs ++ ys) h)
 
-      zeros : ys ≡ tuple_plus G (tuple_zero G (w - 1)) ys
-      zeros = let rest : length ys ≡ w - 1 = omega arith in sym (zero_tuple_plus G L ys (tail_valid G b ys u)) ∙ ap (λ (n : ℕ). tuple_plus G (tuple_zero G n) ys) rest
+  module _ (w i : ℕ) where
+    -- the last row alone; those ahead are whole rows, so nothing stands before them
+    pub deal_starts : (n : ℕ) (cs ahead last before rest out : List C) → cs ≡ ahead ++ last → length last ≡ w → length cs ≡ n * w
+        → ahead ≡ before ++ rest → length before ≡ length ahead % w → out ≡ last → Dealt G w i cs rest out
+    deal_starts n cs ahead last before rest out parts long full ahead_parts over e =
+        let split : length ahead + w ≡ n * w = omega (arith, ap length parts, length-append ahead last) in
+        let whole : length ahead % w ≡ 0 = sym (add-mod_right (length ahead) w) ∙ ap (λ k. k % w) split ∙ mul-mod_left n w in
+        let none : before ≡ [] = nil_from_length before (over ∙ whole) in
+        record {
+          done = last;
+          k = 1;
+          all = parts ∙ ap (λ z. z ++ last) (ahead_parts ∙ ap (λ z. z ++ rest) none);
+          count = omega arith;
+          same = λ v.
+              let vl : T (all_valid G last) = back_valid ahead last (subst (λ z. T (all_valid G z)) parts v) in (
+                e ∙ sym (value_one G L w last (ok_of G w last long vl) (point i)) ∙ ap (λ r. value (list_ops G w) (r ∷ []) (point i)) (sym (take_all w last (omega arith))),
+                as_valid G L out last e vl,
+              );
+        }
 
-      go : (d : Change) → y ≡ get_or (changed G d (a ∷ xs) (b ∷ ys)) 0 y → (T (G.valid y) → T (G.valid k) → x ≡ changed_element G d y k)
-          → set (changed G d (a ∷ xs) (b ∷ ys)) 0 x ≡ changed G d (a ∷ xs) (tuple_plus G (embedded G w k) (b ∷ ys))
-      go Add is add =
-          let vy : T (G.valid y) = subst (λ (c : C). T (G.valid c)) (sym is) (L.plus_valid a b va vb) in
-          ap₂ (λ (c : C) (l : List C). c ∷ tuple_plus G xs l) (add vy vk ∙ ap (λ (c : C). G.plus c k) is ∙ plus_last G L a b k va vb vk) zeros
-      go Subtract is take-away =
-          let vy : T (G.valid y) = subst (λ (c : C). T (G.valid c)) (sym is) (less_valid G L a b va vb) in
-          ap₂ (λ (c : C) (l : List C). c ∷ tuple_plus G xs (tuple_minus G l)) (take-away vy vk ∙ ap (λ (c : C). G.plus c (G.minus k)) is ∙ less_last G L a b k va vb vk) zeros
+    pub deal_goes_on : (cs rest ahead row out copied after : List C) → rest ≡ ahead ++ row → length row ≡ w → length out ≡ w → copied ≡ row
+        → (T (all_valid G out) → T (all_valid G copied) → after ≡ tuple_plus G copied (act (list_ops G w) (point i) out))
+        → Dealt G w i cs rest out → Dealt G w i cs ahead after
+    deal_goes_on cs rest ahead row out copied after r lr lo c e d =
+        let all : cs ≡ ahead ++ (row ++ d.done) = d.all ∙ ap (λ z. z ++ d.done) r ∙ append_assoc ahead row d.done in
+        record {
+          done = row ++ d.done;
+          k = suc d.k;
+          all = all;
+          count = omega (arith, length-append row d.done, lr, d.count, suc-mul d.k w);
+          same = λ v.
+              let vr : T (all_valid G row) = front_valid row d.done (back_valid ahead (row ++ d.done) (subst (λ z. T (all_valid G z)) all v)) in
+              let inv = d.same v in
+              let t : after ≡ tuple_plus G row (act (list_ops G w) (point i) out) = e inv.1 (as_valid G L copied row c vr) ∙ ap (λ a. tuple_plus G a (act (list_ops G w) (point i) out)) c in
+              let rs : rows w (suc d.k) (row ++ d.done) ≡ row ∷ rows w d.k d.done = ap₂ (λ a b. a ∷ rows w d.k b) (take_at row d.done w lr) (drop_at row d.done w lr) in (
+                t ∙ ap (λ a. tuple_plus G row (act (list_ops G w) (point i) a)) inv.0 ∙ sym (ap (λ z. value (list_ops G w) z (point i)) rs),
+                as_valid G L after _ t (plus_tuple_valid G L row (act (list_ops G w) (point i) out) vr (act_valid G L w out lo inv.1 (point i))),
+              );
+        }
 
-  module _ (w i : ℕ) (cs : List C) (valid : T (all_valid G cs)) where
-    -- one coefficient alone
-    pub value_last : (n : ℕ) (out : List C) → n ≡ 1 → w ≤ length cs → out ≡ take w cs → out ≡ value (list_ops G w) (rows w n cs) (point i)
-    value_last n out one enough e =
-        e ∙ sym (value_one G L w (take w cs) (ok_of G w (take w cs) (length-take-le w cs enough) (take_valid G w cs valid)) (point i))
-        ∙ ap (λ (k : ℕ). value (list_ops G w) (rows w k cs) (point i)) (sym one)
+    -- where less than a row is left of n rows, all are done
+    all_done : (n k a b : ℕ) → a + b ≡ n * w → b ≡ k * w → a < w → k ≡ n
+    all_done n k a b e f l = elim (cases_lt k n) [
+      | inl h ↦ absurd (omega (arith, row_end k n w h))
+      | inr h ↦ elim (cases_lt n k) [ inl g ↦ absurd (omega (arith, row_end n k w g)) | inr g ↦ omega (arith, g) ]
+    ]
 
-    -- the first one, and the point times the value of those after it
-    pub value_more : (n k : ℕ) (first rest inner copied after : List C) → n ≡ k + 1 → n * w ≤ length cs → first ≡ take w cs → rest ≡ drop w cs
-        → (T (all_valid G rest) → inner ≡ value (list_ops G w) (rows w k rest) (point i))
-        → copied ≡ first
-        → (T (all_valid G inner) → T (all_valid G copied) → after ≡ tuple_plus G copied (act (list_ops G w) (point i) inner))
-        → after ≡ value (list_ops G w) (rows w n cs) (point i)
-    value_more n k first rest inner copied after count enough ef er value_of_lem ec add =
-        let O = list_ops G w in
-        let more : suc k ≡ n = omega arith in
-        let vc : T (all_valid G copied) = as_valid G L copied (take w cs) (ec ∙ ef) (take_valid G w cs valid) in
-        let vr : T (all_valid G rest) = as_valid G L rest (drop w cs) er (drop_valid G w cs valid) in
-        let left : k * w ≤ length (drop w cs) = omega (arith, suc-mul k w, ap (λ (a : ℕ). a * w) more, length-drop w cs) in
-        let is : inner ≡ value O (rows w k (drop w cs)) (point i) = value_of_lem vr ∙ ap (λ (l : List C). value O (rows w k l) (point i)) er in
-        let good : T (ok G w (value O (rows w k (drop w cs)) (point i))) = value_ok G L w (rows w k (drop w cs)) (rows_ok G L w k (drop w cs) left (drop_valid G w cs valid)) (point i) in
-        let vi : T (all_valid G inner) = as_valid G L inner _ is (ok_valid G w _ good) in
-        add vi vc
-        ∙ ap₂ (λ (a b : List C). tuple_plus G a (act O (point i) b)) (ec ∙ ef) is
-        ∙ ap (λ (a : ℕ). value O (rows w a cs) (point i)) more
-
-    -- the key and the point times the value of the coefficients
-    pub dealt_from : (n : ℕ) (k : C) (known : List C) → 0 < w → n * w ≤ length cs → T (G.valid k)
-        → known ≡ value (list_ops G w) (rows w n cs) (point i)
-        → T (all_valid G known) × (tuple_plus G (embedded G w k) (act (list_ops G w) (point i) known) ≡ dealt G w i k n cs)
-    dealt_from n k known some enough vk is =
-        let good : T (ok G w (value (list_ops G w) (rows w n cs) (point i))) = value_ok G L w (rows w n cs) (rows_ok G L w n cs enough valid) (point i) in (
-          as_valid G L known _ is (ok_valid G w _ good),
-          ap (λ (l : List C). tuple_plus G (embedded G w k) (act (list_ops G w) (point i) l)) is ∙ sym (dealt_value G L w i n k cs some enough vk valid),
+    pub deal_ends : (n : ℕ) (key : C) (cs rest out : List C) → length rest < w → length cs ≡ n * w → Dealt G w i cs rest out
+        → T (G.valid key) → T (all_valid G cs) → T (all_valid G out) × (tuple_plus G (embedded G w key) (act (list_ops G w) (point i) out) ≡ dealt G w i key n cs)
+    deal_ends n key cs rest out none enough d vk v =
+        let lengths : length rest + length d.done ≡ n * w = sym (length-append rest d.done) ∙ sym (ap length d.all) ∙ enough in
+        let last : d.k ≡ n = all_done n d.k (length rest) (length d.done) lengths d.count none in
+        let empty : rest ≡ [] = nil_from_length rest (omega (arith, lengths, d.count, ap (λ a. a * w) last)) in
+        let whole : cs ≡ d.done = d.all ∙ ap (λ z. z ++ d.done) empty in (
+          (d.same v).1,
+          ap (λ a. tuple_plus G (embedded G w key) (act (list_ops G w) (point i) a)) ((d.same v).0 ∙ ap₂ (value_of G w i) last (sym whole))
+              ∙ sym (dealt_value G L w i n key cs (omega (arith, none)) (omega (arith, enough)) vk v),
         )
-
--- a loop that changes a tuple by the point i times m, from its first place on
-module _ {C : Type 0} (G : GroupOps C) (L : GroupLaws G) where
-  changed_at : (d : Change) (xs ys : List C) (s : ℕ) (x y v : C) → s < length xs → s < length ys → x ≡ get_or xs s x → y ≡ get_or ys s y → v ≡ changed_element G d x y → v ≡ get_or (changed G d xs ys) s v
-  changed_at Add = plus_at G
-  changed_at Subtract = less_at G
-
-  length_changed : (d : Change) (xs ys : List C) → length ys ≡ length xs → length (changed G d xs ys) ≡ length xs
-  length_changed Add xs ys e = length_plus G xs ys e
-  length_changed Subtract xs ys e = length_plus G xs (tuple_minus G ys) (length_minus G ys ∙ e)
-
-  module _ (q i : ℕ) (m : List C) (two : 2 ≤ q) (l : i ≤ q) (n : length m ≡ q - 1) (v : T (all_valid G m)) where
-    abbrev product : List C
-    product = act (list_ops G (q - 1)) (point i) m
-
-    product_ok : T (ok G (q - 1) product)
-    product_ok = act_ok G L (q - 1) (point i) m (ok_of G (q - 1) m n v)
-
-    -- the sum after s places, and the tuple with so many of them changed
-    abbrev pub Changed : Change → List C → ℕ → C → List C → Type 0
-    Changed d xs s sum to = (sum ≡ around G q product (q - 1 + s)) × (take s to ≡ take s (changed G d xs product))
-
-    pub change_starts : (d : Change) (xs to : List C) (sum : C) → sum ≡ G.zero → Changed d xs 0 sum to
-    change_starts d xs to sum e =
-        let place : (q - 1 + 0) % q ≡ q - 1 = ap (λ (z : ℕ). z % q) (omega arith) ∙ mod-eq_of_lt (omega arith) in
-        (e ∙ sym (ap (λ (z : ℕ). get_or product z G.zero) place ∙ get_or_past product (q - 1) G.zero (omega (arith, ok_length G (q - 1) product product_ok))), refl)
-
-    pub change_step : (d : Change) (xs : List C) (s : ℕ) (sum more less rest sum' x y : C) (to : List C) → s < q - 1 → length xs ≡ q - 1 → length to ≡ q - 1 → T (all_valid G xs)
-        → more ≡ get_or m s more → less ≡ get_or m ((s + (q - i)) % q) G.zero
-        → (T (G.valid more) → T (G.valid less) → rest ≡ G.plus more (G.minus less))
-        → (T (G.valid sum) → T (G.valid rest) → sum' ≡ G.plus sum rest)
-        → x ≡ get_or xs s x → (T (G.valid x) → T (G.valid sum') → y ≡ changed_element G d x sum')
-        → Changed d xs s sum to → Changed d xs (s + 1) sum' (set to s y)
-    change_step d xs s sum more less rest sum' x y to h nx nt vx emore eless erest enext read change before =
-        let lp : length product ≡ q - 1 = ok_length G (q - 1) product product_ok in
-        let here : (c : ℕ) → (q - 1 + s + 1 + c) % q ≡ (s + c) % q = λ c. let e : q - 1 + s + 1 + c ≡ s + c + q = omega arith in ap (λ (z : ℕ). z % q) e ∙ add-mod_right (s + c) q in
-        let zero_on : (s + 0) % q ≡ s = ap (λ (z : ℕ). z % q) (omega arith) ∙ mod-eq_of_lt (omega arith) in
-        let is_more : more ≡ around G q m (q - 1 + s + 1 + 0) = get_or_read m s more (omega arith) emore G.zero ∙ sym (ap (λ (z : ℕ). get_or m z G.zero) (here 0 ∙ zero_on)) in
-        let is_less : less ≡ around G q m (q - 1 + s + 1 + (q - i)) = eless ∙ sym (ap (λ (z : ℕ). get_or m z G.zero) (here (q - i))) in
-        let next : sum' ≡ around G q product (q - 1 + s + 1) =
-        walk_sum q 1 (omega arith) G L product 0 (q - i) m (q - 1 + s) sum more less rest sum' v product_ok (point_is G L q i two l m (ok_of G (q - 1) m n v)) before.0 is_more is_less erest enext in
-        let place : (q - 1 + s + 1) % q ≡ s = ap (λ (z : ℕ). z % q) (omega arith) ∙ here 0 ∙ zero_on in
-        let at : sum' ≡ get_or product s G.zero = next ∙ ap (λ (z : ℕ). get_or product z G.zero) place in
-        let vs : T (G.valid sum') = subst (λ (c : C). T (G.valid c)) (sym at) (part_valid G L product s (ok_valid G (q - 1) product product_ok)) in
-        let on : q - 1 + s + 1 ≡ q - 1 + (s + 1) = omega arith in (
-          next ∙ ap (around G q product) on,
-          take_step to (changed G d xs product) s y (omega arith) (omega (arith, length_changed d xs product (lp ∙ sym nx))) before.1
-              (changed_at d xs product s x sum' y (omega arith) (omega arith) read (at ∙ get_or_default product s G.zero sum' (omega arith)) (change (valid_read G xs s x (omega arith) read vx) vs)),
-        )
-
-    pub change_ends : (d : Change) (xs to : List C) (s : ℕ) (sum : C) → q - 1 ≤ s → length xs ≡ q - 1 → length to ≡ q - 1 → Changed d xs s sum to → to ≡ changed G d xs product
-    change_ends d xs to s sum h nx nt after =
-        let lp : length product ≡ q - 1 = ok_length G (q - 1) product product_ok in
-        take_end to (changed G d xs product) s (omega arith) (omega (arith, length_changed d xs product (lp ∙ sym nx))) after.1

@@ -1,5 +1,6 @@
 pub mod Acting
 pub mod Weights
+pub mod Changing
 pub mod Horner
 pub mod Summing
 pub mod ShareRows

@@ -1,10 +1,10 @@
 -- The factors of a weight, and a walk for each of them.
-use Rattle.std.proofs.Common.{◌≡◌, ℕ, suc, ◌-◌, ◌%◌, ◌<◌, ◌≤◌, T, eqb, List, [], ◌∷◌, length, get_or, sym, refl, ap, ◌∙◌, subst, arith}
+use Rattle.std.proofs.Common.{◌≡◌, ℕ, ◌-◌, ◌%◌, ◌<◌, ◌≤◌, T, eqb, List, [], ◌∷◌, length, sym, refl, ap, ◌∙◌, subst, arith}
 use Rattle.std.proofs.lemmas.Bool.{cond_both, cond-true, cond-false, eq-eqb, ne_eqb, eqb-true, eqb-false}
 use Rattle.algebra.specs.Circle.{ahead, ComesRound, Quotient}
 use Rattle.algebra.specs.Group.{GroupOps, GroupLaws}
 use Rattle.algebra.specs.Module.{ModuleOps, ModuleLaws}
-use Rattle.algebra.specs.Tuples.{all_valid, ok, list_ops}
+use Rattle.algebra.specs.Tuples.{all_valid, ok, tuple_plus, list_ops}
 use Rattle.algebra.specs.Space.{ok_of}
 use Rattle.algebra.specs.Scalars.{Scalar, one, times, act, point}
 use Rattle.algebra.specs.Sharing.{less, inverse, factor}
@@ -16,7 +16,7 @@ use Rattle.algebra.proofs.Ways.{ahead_some, ahead_back, point_mod}
 use Rattle.algebra.proofs.PrimeNumbers.{inverts}
 use Rattle.algebra.proofs.TupleModule.{tuple_laws}
 use Rattle.sharing.specs.declared.scheme.Scheme.{Scheme}
-use Rattle.sharing.proofs.Acting.{as_valid, act_length, act_valid}
+use Rattle.sharing.proofs.Acting.{as_valid, act_valid}
 
 pub q_some : (s : Scheme) → 0 < s.q
 q_some s = omega (arith, s.above)
@@ -52,19 +52,6 @@ turned_weight q L p j [] m = refl
 turned_weight {O = O} q L p j (k ∷ hs) m =
     factor_turned q L p j k (act O (weight_at q hs (p % q) j) m) ∙ ap (act O (factor_at q p j k)) (turned_weight q L p j hs m)
 
--- where all helpers are holders, so are the first and those after it
-module _ (s : Scheme) (k : ℕ) (hs rest : List ℕ) (e : hs ≡ k ∷ rest) (known : (i : ℕ) → i < length hs → (1 ≤ get_or hs i 0) × (get_or hs i 0 ≤ s.n)) where
-  pub first_below : k < s.q
-  first_below =
-      let n : 0 < length hs = omega (arith, ap length e) in
-      let h : k ≤ s.n = subst (λ (l : List ℕ). get_or l 0 0 ≤ s.n) e (known 0 n).1 in
-      omega (arith, s.above)
-
-  pub rest_known : (i : ℕ) → i < length rest → (1 ≤ get_or rest i 0) × (get_or rest i 0 ≤ s.n)
-  rest_known i h =
-      let n : suc i < length hs = omega (arith, ap length e) in
-      subst (λ (l : List ℕ). (1 ≤ get_or l (suc i) 0) × (get_or l (suc i) 0 ≤ s.n)) e (known (suc i) n)
-
 module _ {C : Type 0} (G : GroupOps C) (L : GroupLaws G) where
   -- what a walk writes
   pub factored : (s : Scheme) (p j k d come : ℕ) (m out : List C) → k < s.q → p < s.q → j < s.q → length m ≡ s.q - 1 → T (all_valid G m) → (k ≡ j → ⊥)
@@ -86,14 +73,21 @@ module _ {C : Type 0} (G : GroupOps C) (L : GroupLaws G) where
   pub weight_turned : (q p j : ℕ) → 2 ≤ q → (hs : List ℕ) (m : List C) → T (ok G (q - 1) m) → act (list_ops G (q - 1)) (weight_at q hs (p % q) j) m ≡ act (list_ops G (q - 1)) (weight_at q hs p j) m
   weight_turned q p j two hs = act_equal G L (q - 1) (weight_at q hs (p % q) j) (weight_at q hs p j) (turned_weight q (tuple_laws G L q two) p j hs)
 
-  -- the factor of one helper, after the weight of the rest
-  pub weight_more : (q p j k : ℕ) (hs rest : List ℕ) (m other out : List C) → hs ≡ k ∷ rest → length m ≡ q - 1 → T (all_valid G m)
-      → other ≡ act (list_ops G (q - 1)) (weight_at q rest p j) m
-      → (length other ≡ q - 1 → T (all_valid G other) → out ≡ act (list_ops G (q - 1)) (factor_at q p j k) other)
-      → out ≡ act (list_ops G (q - 1)) (weight_at q hs p j) m
-  weight_more q p j k hs rest m other out e n v is f =
-      let w : ℕ = q - 1 in
-      let s : Scalar = weight_at q rest p j in
-      f (ap length is ∙ act_length G L w m n v s) (as_valid G L other (act (list_ops G w) s m) is (act_valid G L w m n v s))
-      ∙ ap (act (list_ops G w) (factor_at q p j k)) is
-      ∙ ap (λ (B : List ℕ). act (list_ops G w) (weight_at q B p j) m) (sym e)
+  -- the factor of one helper more
+  pub weight_more : (q p j k : ℕ) (done : List ℕ) (m from to : List C) → length m ≡ q - 1 → T (all_valid G m)
+      → from ≡ act (list_ops G (q - 1)) (weight_at q done p j) m
+      → (T (all_valid G from) → to ≡ act (list_ops G (q - 1)) (factor_at q p j k) from)
+      → to ≡ act (list_ops G (q - 1)) (weight_at q (k ∷ done) p j) m
+  weight_more q p j k done m from to n v is f =
+      let s : Scalar = weight_at q done p j in
+      f (as_valid G L from (act (list_ops G (q - 1)) s m) is (act_valid G L (q - 1) m n v s)) ∙ ap (act (list_ops G (q - 1)) (factor_at q p j k)) is
+
+  -- the product is added to a tuple
+  pub weight_added : (q p j : ℕ) (hs done : List ℕ) (m from out after : List C) → hs ≡ done → length m ≡ q - 1
+      → (T (all_valid G m) → from ≡ act (list_ops G (q - 1)) (weight_at q done p j) m)
+      → (T (all_valid G out) → T (all_valid G from) → after ≡ tuple_plus G out from)
+      → T (all_valid G m) → T (all_valid G out) → after ≡ tuple_plus G out (act (list_ops G (q - 1)) (weight_at q hs p j) m)
+  weight_added q p j hs done m from out after e n is add v vo =
+      let s : Scalar = weight_at q done p j in
+      add vo (as_valid G L from (act (list_ops G (q - 1)) s m) (is v) (act_valid G L (q - 1) m n v s))
+      ∙ ap (tuple_plus G out) (is v ∙ ap (λ (B : List ℕ). act (list_ops G (q - 1)) (weight_at q B p j) m) (sym e))

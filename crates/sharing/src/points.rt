@@ -1,13 +1,14 @@
-ghost use Rattle.std.specs.Prelude.{◌≡◌, ◌+◌, ◌-◌, ◌%◌, ◌<◌, ◌≤◌, T, List, length, slice_index_or};
+ghost use Rattle.std.specs.Prelude.{◌≡◌, ◌+◌, ◌-◌, ◌*◌, ◌%◌, ◌<◌, ◌≤◌, T, List, length, slice_index_or};
 ghost use Rattle.algebra.specs.Circle.{ahead, Quotient};
 ghost use Rattle.algebra.specs.Dealing.{weight_at};
 ghost use Rattle.algebra.specs.Scalars.{act, point};
-ghost use Rattle.algebra.specs.Tuples.{all_valid, ok, list_ops};
+ghost use Rattle.algebra.specs.Tuples.{all_valid, ok, tuple_plus, list_ops};
 ghost use Rattle.sharing.specs.Shares.{changed_element, changed};
 
 use crate::helpers::Helpers;
 use crate::scheme::Scheme;
 use crate::shares::Change;
+use crate::tuples::add_into;
 use groups::group::Group;
 
 // The place d on from i, on a circle of q places.
@@ -123,38 +124,34 @@ pub(crate) fn change_point<G: Group>(
     }
 }
 
-// Writes the weight of j among the helpers at the point p times `m` to `out`, by way of `other`.
-//
-// It calls itself with the two tuples' parts changed, so that no product is copied.
-pub(crate) fn mul_weight<G: Group>(
+// Adds the weight of j among the helpers at the point p times `m` to `out`, by way of two tuples of
+// `scratch`, which take turns so that no product is copied.
+pub(crate) fn add_weighted<G: Group>(
     g: &G,
     helpers: Helpers,
     p: usize,
     j: usize,
     m: &[G::Element],
     out: &mut [G::Element],
-    other: &mut [G::Element],
+    scratch: &mut [G::Element],
 )
     requires p { p < helpers.scheme.q }
     requires j { j < helpers.scheme.q }
     requires m { length m.now ≡ helpers.scheme.q - 1 }
     requires out { length out.old ≡ helpers.scheme.q - 1 }
-    requires other { length other.old ≡ helpers.scheme.q - 1 }
-    ensures { T (all_valid (G.ops g.now) m.now) → out.new ≡ act (list_ops (G.ops g.now) (helpers.entry.scheme.q - 1)) (weight_at helpers.entry.scheme.q helpers.entry.list.now p j) m.now }
+    requires room { length scratch.old ≡ 2 * (helpers.scheme.q - 1) }
+    ensures { T (all_valid (G.ops g.now) m.now) → T (all_valid (G.ops g.now) out.old) → out.new ≡ tuple_plus (G.ops g.now) out.old (act (list_ops (G.ops g.now) (helpers.entry.scheme.q - 1)) (weight_at helpers.entry.scheme.q helpers.entry.list.now p j) m.now) }
 {
     let scheme = helpers.scheme;
-    let Some((k, list)) = helpers.list.split_first() else {
-        out.copy_from_slice(m);
-        return;
-    };
-    let k = *k as usize;
-    let rest = Helpers { scheme, list };
-    if k == j {
-        mul_weight(g, rest, p, j, m, out, other);
-        return;
-    }
-    mul_weight(g, rest, p, j, m, other, out);
-    let d = way(scheme.q, j, k);
     let come = way(scheme.q, p, j);
-    mul_quotient(g, scheme, d, come, other, out);
+    let (mut from, mut to) = scratch.split_at_mut(scheme.q - 1);
+    from.copy_from_slice(m);
+    for k in helpers.list.iter().rev() {
+        let k = *k as usize;
+        if k != j {
+            mul_quotient(g, scheme, way(scheme.q, j, k), come, from, to);
+            (from, to) = (to, from);
+        }
+    }
+    add_into(g, out, from);
 }

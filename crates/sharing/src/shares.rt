@@ -1,12 +1,11 @@
 ghost use Rattle.std.specs.Prelude.{◌≡◌, ◌+◌, ◌-◌, ◌*◌, ◌<◌, ◌≤◌, T, ◌++◌, length, MatchResult, OnOk};
-ghost use Rattle.algebra.specs.Scalars.{act, point};
-ghost use Rattle.algebra.specs.Tuples.{all_valid, tuple_plus, list_ops};
+ghost use Rattle.algebra.specs.Tuples.{all_valid};
 ghost use Rattle.algebra.specs.Rows.{row_at, put_row};
-ghost use Rattle.algebra.specs.Dealing.{embedded, dealt, tuple_at};
+ghost use Rattle.algebra.specs.Dealing.{dealt, tuple_at};
 ghost use Rattle.sharing.specs.Verdicts.{first, verdict};
 ghost use Rattle.sharing.specs.Shares.{changed, length_rows, dealing_rows, tuple_rows, Interpolated};
 
-use crate::dealing::{change_share, evaluate, interpolate};
+use crate::dealing::{change_share, interpolate};
 use crate::fault::CabinetFault;
 use crate::helpers::{Helpers, check_holder};
 use crate::lengths::check_count;
@@ -54,29 +53,8 @@ fn check_tuple<'a>(
     Helpers::new(scheme, helpers)
 }
 
-// Adds a key and the point h + 1 times `value` to the row h of the share memory, or takes them from
-// that row, and leaves the other rows.
-fn change_row<G: Group>(
-    group: &G,
-    scheme: Scheme,
-    change: Change,
-    h: usize,
-    key: G::Element,
-    value: &[G::Element],
-    shares: &mut [G::Element],
-)
-    requires known { h < scheme.n }
-    requires full { length shares.old ≡ scheme.n * (scheme.q - 1) }
-    requires value { length value.now ≡ scheme.q - 1 }
-    ensures { T (all_valid (G.ops group.now) shares.old) → T ((G.ops group.now).valid key) → T (all_valid (G.ops group.now) value.now) → shares.new ≡ put_row (scheme.q - 1) h (changed (G.ops group.now) change (row_at (scheme.q - 1) h shares.old) (tuple_plus (G.ops group.now) (embedded (G.ops group.now) (scheme.q - 1) key) (act (list_ops (G.ops group.now) (scheme.q - 1)) (point (h + 1)) value.now))) shares.old }
-{
-    let width = scheme.q - 1;
-    let start = h * width;
-    let share = &mut shares[start..start + width];
-    change_share(group, scheme, change, h + 1, key, value, share);
-}
-
-// Adds to the row h of the share memory what its holder is dealt, or takes that from it.
+// Adds to the row h of the share memory what its holder is dealt, or takes that from it, and leaves
+// the other rows.
 fn deal_row<G: Group>(
     group: &G,
     scheme: Scheme,
@@ -94,10 +72,19 @@ fn deal_row<G: Group>(
     ensures { T (all_valid (G.ops group.now) shares.old) → T ((G.ops group.now).valid key) → T (all_valid (G.ops group.now) coefficients.now) → shares.new ≡ put_row (scheme.q - 1) h (changed (G.ops group.now) change (row_at (scheme.q - 1) h shares.old) (dealt (G.ops group.now) (scheme.q - 1) (h + 1) key (scheme.t - 1) coefficients.now)) shares.old }
 {
     let width = scheme.width();
-    let (value, rest) = scratch.split_at_mut(width);
-    let (other, _) = rest.split_at_mut(width);
-    evaluate(group, scheme, h + 1, coefficients, value, other);
-    change_row(group, scheme, change, h, key, value, shares);
+    let start = h * width;
+    let share = &mut shares[start..start + width];
+    let (tuples, _) = scratch.split_at_mut(2 * width);
+    change_share(
+        group,
+        scheme,
+        change,
+        h + 1,
+        key,
+        coefficients,
+        share,
+        tuples,
+    );
 }
 
 // Adds to a holder's share what dealing the key with these coefficients gives that holder, or takes

@@ -44,6 +44,6 @@ loop-j-preserved g c =
       j ∷ done,
       walked c.args.helpers.list.now (iter_rest (rev_source c.loop-j.j-iterator)) (iter_rest (rev_source c.next.new.self)) done j c.loop-j.invariant.1 (search rules),
       λ v. sum_step (g.G.Group.ops c.args.g.now) (g.met.G.Group.laws c.args.g.now) c.args.helpers.scheme.q c.args.helpers.list.now c.args.p c.args.shares.now
-          done j c.width-width.result c.loop-j.out c.mul_weight.new.out c.add_into.new.to
-          c.args.helpers.scheme.prime.1.0 c.width-width.ensures (search rules) c.mul_weight.ensures c.add_into.ensures v (c.loop-j.invariant.2 v),
+          done j c.width-width.result c.loop-j.out c.add_weighted.new.out
+          c.args.helpers.scheme.prime.1.0 c.width-width.ensures (search rules) c.add_weighted.ensures v (c.loop-j.invariant.2 v),
     )

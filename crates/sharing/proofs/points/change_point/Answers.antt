@@ -1,6 +1,6 @@
 use Rattle.std.proofs.Common.{◌≤◌, refl, arith}
 use Rattle.algebra.proofs.Places.{drop_step, read_left}
-use Rattle.sharing.proofs.Horner.{change_starts, change_step, change_ends}
+use Rattle.sharing.proofs.Changing.{change_starts, change_step, change_ends}
 use Rattle.sharing.proofs.points.change_point.Goals as goal
 
 pub loop-s-init : goal.loop-s-init

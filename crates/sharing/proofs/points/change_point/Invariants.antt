@@ -1,6 +1,6 @@
 use Rattle.std.proofs.Common.{◌≡◌, ◌-◌, ◌≤◌, T, length, drop}
 use Rattle.algebra.specs.Tuples.{all_valid}
-use Rattle.sharing.proofs.Horner.{Changed}
+use Rattle.sharing.proofs.Changing.{Changed}
 use Rattle.sharing.proofs.points.change_point.Given as goal
 
 abbrev pub invariant-loop-s : goal.invariant-loop-s
