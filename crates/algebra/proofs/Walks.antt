@@ -4,11 +4,15 @@ use Rattle.std.proofs.Math.Nat.{mod-add-mod, add-mod-mod, add-mod_right, zero-mo
 use Rattle.std.proofs.lemmas.List.{get_or_past, get_or-set_same, get_or-set_other, ext_get_or}
 use Rattle.std.proofs.lemmas.Bool.{cases_lt, cases_eq}
 use Rattle.std.proofs.lemmas.Nat.{mul-mod_first, mul-mod_second}
-use Rattle.algebra.specs.Circle.{ComesRound, around, Quotient}
+use Rattle.algebra.specs.Circle.{around, Quotient}
 use Rattle.algebra.specs.Group.{GroupOps, GroupLaws}
 use Rattle.algebra.specs.Tuples.{all_valid, ok}
 use Rattle.algebra.specs.Space.{ok_valid}
 use Rattle.algebra.proofs.Around.{part_valid, taken_over}
+
+-- steps of d places come to every place: some number times d is one more than a multiple of q
+abbrev pub ComesRound : ℕ → ℕ → Type 0
+ComesRound q d = (e : ℕ) × ((d * e) % q ≡ 1)
 
 module _ (q d : ℕ) (some : 0 < q) where
   -- before the first step

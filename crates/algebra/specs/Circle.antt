@@ -1,5 +1,5 @@
 -- A circle of q places: the elements of a tuple, and one zero after them.
-use Rattle.std.specs.Prelude.{◌≡◌, ℕ, ◌+◌, ◌-◌, ◌*◌, ◌%◌, List, slice_index_or}
+use Rattle.std.specs.Prelude.{◌≡◌, ℕ, ◌+◌, ◌-◌, ◌%◌, List, slice_index_or}
 use Rattle.algebra.specs.Group.{GroupOps}
 use Rattle.algebra.specs.Scalars.{Scalar, times, power, geometric}
 
@@ -11,10 +11,6 @@ ahead q i j = (j + (q - i)) % q
 -- way is the difference
 abbrev pub inverse_around : ℕ → (ℕ → ℕ) → ℕ → ℕ → Scalar
 inverse_around q inv k j = times (power (q - j)) (geometric (ahead q j k) (inv (ahead q j k)))
-
--- steps of d places come to every place: some number times d is one more than a multiple of q
-abbrev pub ComesRound : ℕ → ℕ → Type 0
-ComesRound q d = (e : ℕ) × ((d * e) % q ≡ 1)
 
 -- what stands at the place i
 abbrev pub around : {C : Type 0} → GroupOps C → ℕ → List C → ℕ → C

@@ -1,7 +1,7 @@
 -- The factors of a weight, and a walk for each of them.
 use Rattle.std.proofs.Common.{◌≡◌, ℕ, ◌-◌, ◌%◌, ◌<◌, ◌≤◌, T, eqb, List, [], ◌∷◌, length, sym, refl, ap, ◌∙◌, subst, arith}
 use Rattle.std.proofs.lemmas.Bool.{cond_both, cond-true, cond-false, eq-eqb, ne_eqb, eqb-true, eqb-false}
-use Rattle.algebra.specs.Circle.{ahead, ComesRound, Quotient}
+use Rattle.algebra.specs.Circle.{ahead, Quotient}
 use Rattle.algebra.specs.Group.{GroupOps, GroupLaws}
 use Rattle.algebra.specs.Module.{ModuleOps, ModuleLaws}
 use Rattle.algebra.specs.Tuples.{all_valid, ok, tuple_plus, list_ops}
@@ -13,6 +13,7 @@ use Rattle.algebra.specs.Dealing.{weight_at}
 use Rattle.algebra.proofs.Around.{factor_is}
 use Rattle.algebra.proofs.Dealings.{act_ok, act_equal}
 use Rattle.algebra.proofs.Ways.{ahead_some, ahead_back, point_mod}
+use Rattle.algebra.proofs.Walks.{ComesRound}
 use Rattle.algebra.proofs.PrimeNumbers.{inverts}
 use Rattle.algebra.proofs.TupleModule.{tuple_laws}
 use Rattle.sharing.specs.declared.scheme.Scheme.{Scheme}
