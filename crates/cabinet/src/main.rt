@@ -3,7 +3,7 @@
 
 use console::console::Console;
 use lines::reader::LineReader;
-use std::io::{BufReader, Read};
+use std::io::Read;
 
 // Answers the line that the reader holds, and makes the reader ready for the next.
 fn answer(rt: &HostRuntime, console: &mut Console, reader: &mut LineReader) -> anyhow::Result<()> {
@@ -17,9 +17,18 @@ fn answer(rt: &HostRuntime, console: &mut Console, reader: &mut LineReader) -> a
 fn run(rt: &HostRuntime) -> anyhow::Result<()> {
     let mut console = Console::new(rt.alloc());
     let mut reader = LineReader::new(rt.alloc());
-    for byte in BufReader::new(rt.alloc(), rt.stdin())?.bytes() {
-        if reader.feed(byte?)? {
-            answer(rt, &mut console, &mut reader)?;
+    // No BufReader: it would take memory from the heap before the first line, and a step of its own for each byte.
+    let mut input = rt.stdin();
+    let mut buffer = [0u8; 4096];
+    for _ in 0..u64::MAX {
+        let count = input.read(&mut buffer)?;
+        if count == 0 {
+            break;
+        }
+        for byte in &buffer[..count] {
+            if reader.feed(*byte)? {
+                answer(rt, &mut console, &mut reader)?;
+            }
         }
     }
     if !reader.is_empty() {

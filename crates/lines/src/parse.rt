@@ -7,7 +7,6 @@ ghost use Rattle.lines.specs.Lines.{front_digits, number_of, accepts, least, fir
 
 use crate::fault::{LineFault, ParseError};
 use crate::letter::Letter;
-use std::str;
 
 // The longest line, in bytes.
 const LONGEST: usize = 16_384;
@@ -30,14 +29,19 @@ fn leading_digits(bytes: &[u8]) -> usize
 }
 
 // The number that the digits write, if there are 1 to 10 of them and it is not too large.
+#[tactic(auto, using(crate::proofs::Reading::digit_at, crate::proofs::Reading::value_more, crate::proofs::Reading::too_large, crate::proofs::Reading::read_all))]
 fn number(digits: &[u8]) -> Option<u32>
     requires { all_ascii_digits digits.now ≡ true }
     ensures { result ≡ number_of digits.now }
 {
-    if digits.len() > DIGITS {
+    if digits.is_empty() || digits.len() > DIGITS {
         return None;
     }
-    str::from_utf8(digits).ok()?.parse().ok()
+    let mut value: u32 = 0;
+    for byte in digits {
+        value = value.checked_mul(10)?.checked_add(u32::from(*byte - b'0'))?;
+    }
+    Some(value)
 }
 
 // Whether the letter takes `value` as its field after `count` others.
