@@ -94,7 +94,7 @@ impl Group for Turns {
     }
 
     fn same(&self, a: Turn, b: Turn) -> bool {
-        a == b
+        a.then(b.undone()).is_stay()
     }
 
     fn zero(&self) -> Turn {
