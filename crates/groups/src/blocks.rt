@@ -39,6 +39,12 @@ impl Group for Blocks {
     fn negative(&self, a: [u8; 16]) -> [u8; 16] {
         a
     }
+
+    fn negatives(&self, from: &[[u8; 16]], to: &mut [[u8; 16]]) {
+        if from.len() == to.len() {
+            to.copy_from_slice(from);
+        }
+    }
 }
 
 impl EncodedGroup for Blocks {

@@ -67,6 +67,16 @@ impl Group for Sums {
         let rest = a.wrapping_sub(b);
         rest.min(rest.wrapping_add(self.modulus))
     }
+
+    // One for each, since here a negative costs no more than a sum.
+    fn negatives(&self, from: &[u32], to: &mut [u32]) {
+        if from.len() != to.len() {
+            return;
+        }
+        for k in 0..from.len() {
+            to[k] = self.negative(from[k]);
+        }
+    }
 }
 
 impl EncodedGroup for Sums {

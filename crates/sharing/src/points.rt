@@ -100,7 +100,10 @@ pub(crate) fn change_element<G: Group>(
     }
 }
 
-// Adds the point i times `m` to `to`, or takes it from `to`.
+// Adds the point i times `m` to `to`, or takes it from `to`, by way of `minus`.
+//
+// It walks around the circle: each step adds what stands there and takes away what stands i places
+// behind, whose negative stands in `minus`.
 pub(crate) fn change_point<G: Group>(
     g: &G,
     scheme: Scheme,
@@ -108,18 +111,21 @@ pub(crate) fn change_point<G: Group>(
     i: usize,
     m: &[G::Element],
     to: &mut [G::Element],
+    minus: &mut [G::Element],
 )
     requires some { 1 ≤ i }
     requires below { i < scheme.q }
     requires m { length m.now ≡ scheme.q - 1 }
     requires to { length to.old ≡ scheme.q - 1 }
+    requires minus { length minus.old ≡ scheme.q - 1 }
     ensures { T (all_valid (G.ops g.now) m.now) → T (all_valid (G.ops g.now) to.old) → to.new ≡ changed (G.ops g.now) change to.old (act (list_ops (G.ops g.now) (scheme.q - 1)) (point i) m.now) }
 {
+    g.negatives(m, minus);
     let mut sum = g.zero();
     // By index, since after `iter_mut` a proof knows the length and no element.
     for s in 0..m.len() {
-        let less = behind(g, scheme.q, m, s, i);
-        sum = g.sum(sum, g.difference(m[s], less));
+        let gone = behind(g, scheme.q, minus, s, i);
+        sum = g.sum(sum, g.sum(m[s], gone));
         to[s] = change_element(g, change, to[s], sum);
     }
 }
