@@ -16,6 +16,8 @@ pub struct Blocks;
 impl Group for Blocks {
     type Element = [u8; 16];
 
+    const DEAR_NEGATIVES: bool = false;
+
     ghost ops = { λ _. blocks };
 
     ghost laws = { λ g. blocks_laws };
@@ -38,12 +40,6 @@ impl Group for Blocks {
 
     fn negative(&self, a: [u8; 16]) -> [u8; 16] {
         a
-    }
-
-    fn negatives(&self, from: &[[u8; 16]], to: &mut [[u8; 16]]) {
-        if from.len() == to.len() {
-            to.copy_from_slice(from);
-        }
     }
 }
 

@@ -33,6 +33,8 @@ impl Sums {
 impl Group for Sums {
     type Element = u32;
 
+    const DEAR_NEGATIVES: bool = false;
+
     ghost ops = { λ g. sums g.modulus };
 
     ghost laws = { λ g. sums_laws g.modulus g.sound.0 };
@@ -66,16 +68,6 @@ impl Group for Sums {
     fn difference(&self, a: u32, b: u32) -> u32 {
         let rest = a.wrapping_sub(b);
         rest.min(rest.wrapping_add(self.modulus))
-    }
-
-    // One for each, since here a negative costs no more than a sum.
-    fn negatives(&self, from: &[u32], to: &mut [u32]) {
-        if from.len() != to.len() {
-            return;
-        }
-        for k in 0..from.len() {
-            to[k] = self.negative(from[k]);
-        }
     }
 }
 

@@ -1,5 +1,5 @@
 -- A tuple that is changed by the point i times another, and then in its first element by a key.
-use Rattle.std.proofs.Common.{◌≡◌, ℕ, zero, suc, ◌+◌, ◌-◌, ◌%◌, ◌<◌, ◌≤◌, T, List, [], ◌∷◌, length, get_or, take, set, sym, refl, ap, ◌∙◌, subst, ap₂, mod-eq_of_lt, arith}
+use Rattle.std.proofs.Common.{◌≡◌, ℕ, ◌+◌, ◌-◌, ◌%◌, ◌<◌, ◌≤◌, T, List, [], ◌∷◌, length, get_or, take, set, sym, refl, ap, ◌∙◌, subst, ap₂, mod-eq_of_lt, arith}
 use Rattle.std.proofs.Math.Nat.{add-mod_right}
 use Rattle.std.proofs.lemmas.List.{get_or_read, get_or_past, get_or_default}
 use Rattle.algebra.specs.Circle.{around}
@@ -12,7 +12,6 @@ use Rattle.algebra.specs.Dealing.{embedded}
 use Rattle.algebra.proofs.Around.{part_valid, plus_last, less_last, point_is}
 use Rattle.algebra.proofs.Places.{take_step, take_end, plus_at, less_at}
 use Rattle.algebra.proofs.Walks.{walk_sum}
-use Rattle.algebra.proofs.TupleSums.{minus_zero}
 use Rattle.algebra.proofs.TupleModule.{zero_tuple_plus}
 use Rattle.algebra.proofs.Dealings.{act_ok}
 use Rattle.sharing.specs.declared.shares.Change.{Change}
@@ -47,12 +46,6 @@ module _ {C : Type 0} (G : GroupOps C) (L : GroupLaws G) where
           let vy : T (G.valid y) = subst (λ (c : C). T (G.valid c)) (sym is) (less_valid G L a b va vb) in
           ap₂ (λ (c : C) (l : List C). c ∷ tuple_plus G xs (tuple_minus G l)) (take-away vy vk ∙ ap (λ (c : C). G.plus c (G.minus k)) is ∙ less_last G L a b k va vb vk) zeros
 
-  -- an element's negative, or the zero after them
-  minus_part : (xs : List C) (i : ℕ) → get_or (tuple_minus G xs) i G.zero ≡ G.minus (get_or xs i G.zero)
-  minus_part [] i = sym (minus_zero G L)
-  minus_part (x ∷ xs) zero = refl
-  minus_part (x ∷ xs) (suc i) = minus_part xs i
-
   -- a loop that changes a tuple by the point i times m, from its first place on
   changed_at : (d : Change) (xs ys : List C) (s : ℕ) (x y v : C) → s < length xs → s < length ys → x ≡ get_or xs s x → y ≡ get_or ys s y → v ≡ changed_element G d x y → v ≡ get_or (changed G d xs ys) s v
   changed_at Add = plus_at G
@@ -78,23 +71,20 @@ module _ {C : Type 0} (G : GroupOps C) (L : GroupLaws G) where
         let place : (q - 1 + 0) % q ≡ q - 1 = ap (λ (z : ℕ). z % q) (omega arith) ∙ mod-eq_of_lt (omega arith) in
         (e ∙ sym (ap (λ (z : ℕ). get_or product z G.zero) place ∙ get_or_past product (q - 1) G.zero (omega (arith, ok_length G (q - 1) product product_ok))), refl)
 
-    pub change_step : (d : Change) (xs minus : List C) (s : ℕ) (sum more gone rest sum' x y : C) (to : List C) → s < q - 1 → length xs ≡ q - 1 → length to ≡ q - 1 → T (all_valid G xs)
-        → more ≡ get_or m s more → minus ≡ tuple_minus G m → gone ≡ get_or minus ((s + (q - i)) % q) G.zero
-        → (T (G.valid more) → T (G.valid gone) → rest ≡ G.plus more gone)
+    pub change_step : (d : Change) (xs : List C) (s : ℕ) (sum more less rest sum' x y : C) (to : List C) → s < q - 1 → length xs ≡ q - 1 → length to ≡ q - 1 → T (all_valid G xs)
+        → more ≡ get_or m s more → less ≡ get_or m ((s + (q - i)) % q) G.zero
+        → (T (G.valid more) → T (G.valid less) → rest ≡ G.plus more (G.minus less))
         → (T (G.valid sum) → T (G.valid rest) → sum' ≡ G.plus sum rest)
         → x ≡ get_or xs s x → (T (G.valid x) → T (G.valid sum') → y ≡ changed_element G d x sum')
         → Changed d xs s sum to → Changed d xs (s + 1) sum' (set to s y)
-    change_step d xs minus s sum more gone rest sum' x y to h nx nt vx emore eminus egone erest enext read change before =
-        let less : C = get_or m ((s + (q - i)) % q) G.zero in
-        let is_gone : gone ≡ G.minus less = egone ∙ ap (λ (l : List C). get_or l ((s + (q - i)) % q) G.zero) eminus ∙ minus_part m ((s + (q - i)) % q) in
+    change_step d xs s sum more less rest sum' x y to h nx nt vx emore eless erest enext read change before =
         let lp : length product ≡ q - 1 = ok_length G (q - 1) product product_ok in
         let here : (c : ℕ) → (q - 1 + s + 1 + c) % q ≡ (s + c) % q = λ c. let e : q - 1 + s + 1 + c ≡ s + c + q = omega arith in ap (λ (z : ℕ). z % q) e ∙ add-mod_right (s + c) q in
         let zero_on : (s + 0) % q ≡ s = ap (λ (z : ℕ). z % q) (omega arith) ∙ mod-eq_of_lt (omega arith) in
         let is_more : more ≡ around G q m (q - 1 + s + 1 + 0) = get_or_read m s more (omega arith) emore G.zero ∙ sym (ap (λ (z : ℕ). get_or m z G.zero) (here 0 ∙ zero_on)) in
-        let is_less : less ≡ around G q m (q - 1 + s + 1 + (q - i)) = sym (ap (λ (z : ℕ). get_or m z G.zero) (here (q - i))) in
+        let is_less : less ≡ around G q m (q - 1 + s + 1 + (q - i)) = eless ∙ sym (ap (λ (z : ℕ). get_or m z G.zero) (here (q - i))) in
         let next : sum' ≡ around G q product (q - 1 + s + 1) =
-        walk_sum q 1 (omega arith) G L product 0 (q - i) m (q - 1 + s) sum more less rest sum' v product_ok (point_is G L q i two l m (ok_of G (q - 1) m n v)) before.0 is_more is_less
-        (λ vm vl. erest vm (subst (λ (c : C). T (G.valid c)) (sym is_gone) (L.minus_valid less vl)) ∙ ap (G.plus more) is_gone) enext in
+        walk_sum q 1 (omega arith) G L product 0 (q - i) m (q - 1 + s) sum more less rest sum' v product_ok (point_is G L q i two l m (ok_of G (q - 1) m n v)) before.0 is_more is_less erest enext in
         let place : (q - 1 + s + 1) % q ≡ s = ap (λ (z : ℕ). z % q) (omega arith) ∙ here 0 ∙ zero_on in
         let at : sum' ≡ get_or product s G.zero = next ∙ ap (λ (z : ℕ). get_or product z G.zero) place in
         let vs : T (G.valid sum') = subst (λ (c : C). T (G.valid c)) (sym at) (part_valid G L product s (ok_valid G (q - 1) product product_ok)) in
