@@ -8,8 +8,8 @@ ghost use Rattle.algebra.specs.Group.{GroupOps, GroupLaws};
 pub trait Group {
     type Element: Copy;
 
-    // Whether a negative is dear beside a sum, so that a product of a tuple takes one in all, and more
-    // sums. It bears on speed alone, and no promise speaks of it.
+    // Whether a negative is dear beside a sum. A product then takes one for the whole tuple, and three
+    // sums more for each element. It bears on speed alone, and no promise speaks of it.
     const DEAR_NEGATIVES: bool = true;
 
     ghost ops: { Self → GroupOps Self.Element };

@@ -101,7 +101,7 @@ pub(crate) fn change_element<G: Group>(
 }
 
 // What stands at s less what stands i places behind; where negatives are dear, by those in `minus`.
-fn step<G: Group>(
+fn less_behind<G: Group>(
     g: &G,
     scheme: Scheme,
     dear: bool,
@@ -123,7 +123,8 @@ fn step<G: Group>(
     g.difference(m[s], behind(g, scheme.q, m, s, i))
 }
 
-// Adds the point i times `m` to `to`, or takes it from `to`, by way of `minus`.
+// Adds the point i times `m` to `to`, or takes it from `to`. Where negatives are dear, `minus` takes
+// those of `m` first, so that the walk needs none.
 pub(crate) fn change_point<G: Group>(
     g: &G,
     scheme: Scheme,
@@ -147,7 +148,7 @@ pub(crate) fn change_point<G: Group>(
     let mut sum = g.zero();
     // By index, since after `iter_mut` a proof knows the length and no element.
     for s in 0..m.len() {
-        sum = g.sum(sum, step(g, scheme, dear, m, minus, s, i));
+        sum = g.sum(sum, less_behind(g, scheme, dear, m, minus, s, i));
         to[s] = change_element(g, change, to[s], sum);
     }
 }

@@ -28,9 +28,9 @@ loop-s-preserved g c =
     let s = c.loop-s.s in (
       λ below n v vt.
           change_step G (g.met.G.Group.laws c.args.g.now) q c.args.i m c.args.scheme.prime.1.0 below n v c.args.change c.args.to.now
-          s c.loop-s.sum (get_or m s G.zero) (get_or m ((s + (q - c.args.i)) % q) G.zero) c.step.result c.sum-sum.result c.index-to-s.result c.change_element.result c.loop-s.to
+          s c.loop-s.sum (get_or m s G.zero) (get_or m ((s + (q - c.args.i)) % q) G.zero) c.less_behind.result c.sum-sum.result c.index-to-s.result c.change_element.result c.loop-s.to
           (omega arith) c.requires.to (omega arith) vt (get_or_default m s G.zero (get_or m s G.zero) (omega arith)) refl
-          (λ vm vl. c.step.ensures v (negated g c v)) c.sum-sum.ensures
+          (λ vm vl. c.less_behind.ensures v (negated g c v)) c.sum-sum.ensures
           (read_left c.loop-s.to c.args.to.now s c.index-to-s.result c.loop-s.invariant.1 c.index-to-s.is)
           c.change_element.ensures (c.loop-s.invariant.0 below n v vt),
       drop_step c.loop-s.to c.args.to.now s c.change_element.result c.loop-s.invariant.1,

@@ -4,7 +4,7 @@ use Rattle.algebra.specs.Group.{GroupOps, GroupLaws}
 use Rattle.algebra.specs.Tuples.{all_valid, tuple_minus}
 use Rattle.algebra.proofs.Around.{part_valid}
 use Rattle.algebra.proofs.TupleSums.{minus_zero}
-use Rattle.sharing.proofs.points.step.Goals as goal
+use Rattle.sharing.proofs.points.less_behind.Goals as goal
 
 module _ {C : Type 0} (G : GroupOps C) (L : GroupLaws G) where
   -- an element's negative, or the zero after them
