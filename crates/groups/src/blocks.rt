@@ -16,6 +16,8 @@ pub struct Blocks;
 impl Group for Blocks {
     type Element = [u8; 16];
 
+    const DEAR_NEGATIVES: bool = false;
+
     ghost ops = { λ _. blocks };
 
     ghost laws = { λ g. blocks_laws };

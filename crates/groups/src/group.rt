@@ -8,6 +8,10 @@ ghost use Rattle.algebra.specs.Group.{GroupOps, GroupLaws};
 pub trait Group {
     type Element: Copy;
 
+    // Whether a negative is dear beside a sum. A product then takes one for the whole tuple, and three
+    // sums more for each element. It bears on speed alone, and no promise speaks of it.
+    const DEAR_NEGATIVES: bool = true;
+
     ghost ops: { Self → GroupOps Self.Element };
 
     fn is_valid(&self, a: Self::Element) -> bool

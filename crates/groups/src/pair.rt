@@ -55,6 +55,8 @@ impl<A: Copy, B: Copy> Pair<A, B> {
 impl<A: Group, B: Group> Group for Pair<A, B> {
     type Element = (A::Element, B::Element);
 
+    const DEAR_NEGATIVES: bool = A::DEAR_NEGATIVES || B::DEAR_NEGATIVES;
+
     ghost ops = { λ g. pairs (A.Group.ops g.first) (B.Group.ops g.second) };
 
     ghost laws = { λ s. pairs_laws (A.Group.ops s.first) (B.Group.ops s.second) (A.Group.laws s.first) (B.Group.laws s.second) };

@@ -33,6 +33,8 @@ impl Sums {
 impl Group for Sums {
     type Element = u32;
 
+    const DEAR_NEGATIVES: bool = false;
+
     ghost ops = { λ g. sums g.modulus };
 
     ghost laws = { λ g. sums_laws g.modulus g.sound.0 };

@@ -12,3 +12,4 @@ pub mod Filling
 pub mod PrimeSearch
 pub mod Writing
 pub mod Backward
+pub mod Negating

@@ -10,8 +10,8 @@ use crate::shares::Change;
 use crate::tuples::fill_zero;
 use groups::group::Group;
 
-// Adds what the holder i is dealt of the key to a share, or takes it from the share, by way of two
-// tuples of `scratch`, which take turns so that no value is copied.
+// Adds what the holder i is dealt of the key to a share, or takes it from the share, by way of three
+// tuples of `scratch`, of which two take turns so that no value is copied.
 pub(crate) fn change_share<G: Group>(
     g: &G,
     scheme: Scheme,
@@ -26,19 +26,20 @@ pub(crate) fn change_share<G: Group>(
     requires below { i < scheme.q }
     requires full { length coefficients.now ≡ (scheme.t - 1) * (scheme.q - 1) }
     requires share { length share.old ≡ scheme.q - 1 }
-    requires room { length scratch.old ≡ 2 * (scheme.q - 1) }
+    requires room { length scratch.old ≡ 3 * (scheme.q - 1) }
     ensures { T ((G.ops g.now).valid key) → T (all_valid (G.ops g.now) coefficients.now) → T (all_valid (G.ops g.now) share.old) → share.new ≡ changed (G.ops g.now) change share.old (dealt (G.ops g.now) (scheme.q - 1) i key (scheme.t - 1) coefficients.now) }
 {
     let width = scheme.width();
     let (rows, last) = coefficients.split_at(coefficients.len() - width);
-    let (mut value, mut next) = scratch.split_at_mut(width);
+    let (mut value, rest) = scratch.split_at_mut(width);
+    let (mut next, minus) = rest.split_at_mut(width);
     value.copy_from_slice(last);
     for row in rows.rchunks_exact(width) {
         next.copy_from_slice(row);
-        change_point(g, scheme, Change::Add, i, value, next);
+        change_point(g, scheme, Change::Add, i, value, next, minus);
         (value, next) = (next, value);
     }
-    change_point(g, scheme, change, i, value, share);
+    change_point(g, scheme, change, i, value, share, minus);
     share[0] = change_element(g, change, share[0], key);
 }
 

@@ -1,14 +1,14 @@
-ghost use Rattle.std.specs.Prelude.{◌≡◌, ◌+◌, ◌-◌, ◌*◌, ◌%◌, ◌<◌, ◌≤◌, T, List, length, slice_index_or};
+ghost use Rattle.std.specs.Prelude.{◌≡◌, ◌+◌, ◌-◌, ◌*◌, ◌%◌, ◌<◌, ◌≤◌, true, T, List, length, slice_index_or};
 ghost use Rattle.algebra.specs.Circle.{ahead, Quotient};
 ghost use Rattle.algebra.specs.Dealing.{weight_at};
 ghost use Rattle.algebra.specs.Scalars.{act, point};
-ghost use Rattle.algebra.specs.Tuples.{all_valid, ok, tuple_plus, list_ops};
+ghost use Rattle.algebra.specs.Tuples.{all_valid, ok, tuple_plus, tuple_minus, list_ops};
 ghost use Rattle.sharing.specs.Shares.{changed_element, changed};
 
 use crate::helpers::Helpers;
 use crate::scheme::Scheme;
 use crate::shares::Change;
-use crate::tuples::add_into;
+use crate::tuples::{add_into, negatives};
 use groups::group::Group;
 
 // The place d on from i, on a circle of q places.
@@ -100,7 +100,31 @@ pub(crate) fn change_element<G: Group>(
     }
 }
 
-// Adds the point i times `m` to `to`, or takes it from `to`.
+// What stands at s less what stands i places behind; where negatives are dear, by those in `minus`.
+fn less_behind<G: Group>(
+    g: &G,
+    scheme: Scheme,
+    dear: bool,
+    m: &[G::Element],
+    minus: &[G::Element],
+    s: usize,
+    i: usize,
+) -> G::Element
+    requires m { length m.now ≡ scheme.q - 1 }
+    requires minus { length minus.now ≡ scheme.q - 1 }
+    requires s { s < scheme.q - 1 }
+    requires some { 1 ≤ i }
+    requires below { i < scheme.q }
+    ensures { T (all_valid (G.ops g.now) m.now) → (dear ≡ true → minus.now ≡ tuple_minus (G.ops g.now) m.now) → result ≡ (G.ops g.now).plus (slice_index_or m.now s (G.ops g.now).zero) ((G.ops g.now).minus (slice_index_or m.now ((s + (scheme.q - i)) % scheme.q) (G.ops g.now).zero)) }
+{
+    if dear {
+        return g.sum(m[s], behind(g, scheme.q, minus, s, i));
+    }
+    g.difference(m[s], behind(g, scheme.q, m, s, i))
+}
+
+// Adds the point i times `m` to `to`, or takes it from `to`. Where negatives are dear, `minus` takes
+// those of `m` first, so that the walk needs none.
 pub(crate) fn change_point<G: Group>(
     g: &G,
     scheme: Scheme,
@@ -108,18 +132,23 @@ pub(crate) fn change_point<G: Group>(
     i: usize,
     m: &[G::Element],
     to: &mut [G::Element],
+    minus: &mut [G::Element],
 )
     requires some { 1 ≤ i }
     requires below { i < scheme.q }
     requires m { length m.now ≡ scheme.q - 1 }
     requires to { length to.old ≡ scheme.q - 1 }
+    requires minus { length minus.old ≡ scheme.q - 1 }
     ensures { T (all_valid (G.ops g.now) m.now) → T (all_valid (G.ops g.now) to.old) → to.new ≡ changed (G.ops g.now) change to.old (act (list_ops (G.ops g.now) (scheme.q - 1)) (point i) m.now) }
 {
+    let dear = G::DEAR_NEGATIVES;
+    if dear {
+        negatives(g, m, minus);
+    }
     let mut sum = g.zero();
     // By index, since after `iter_mut` a proof knows the length and no element.
     for s in 0..m.len() {
-        let less = behind(g, scheme.q, m, s, i);
-        sum = g.sum(sum, g.difference(m[s], less));
+        sum = g.sum(sum, less_behind(g, scheme, dear, m, minus, s, i));
         to[s] = change_element(g, change, to[s], sum);
     }
 }

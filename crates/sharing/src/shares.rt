@@ -74,7 +74,6 @@ fn deal_row<G: Group>(
     let width = scheme.width();
     let start = h * width;
     let share = &mut shares[start..start + width];
-    let (tuples, _) = scratch.split_at_mut(2 * width);
     change_share(
         group,
         scheme,
@@ -83,7 +82,7 @@ fn deal_row<G: Group>(
         key,
         coefficients,
         share,
-        tuples,
+        scratch,
     );
 }
 

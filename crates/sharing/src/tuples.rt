@@ -1,6 +1,6 @@
 ghost use Rattle.std.specs.Prelude.{◌≡◌, ℕ, ◌<◌, T, length, slice_index_or};
 ghost use Rattle.algebra.specs.Rows.{first_place};
-ghost use Rattle.algebra.specs.Tuples.{all_valid, invalid_at, tuple_zero, tuple_plus};
+ghost use Rattle.algebra.specs.Tuples.{all_valid, invalid_at, tuple_zero, tuple_plus, tuple_minus};
 
 use groups::group::Group;
 
@@ -36,4 +36,25 @@ pub(crate) fn add_into<G: Group>(g: &G, to: &mut [G::Element], from: &[G::Elemen
     ensures { T (all_valid (G.ops g.now) to.old) → T (all_valid (G.ops g.now) from.now) → to.new ≡ tuple_plus (G.ops g.now) to.old from.now }
 {
     write_each(to, |i, x| g.sum(x, from[i]));
+}
+
+// Writes the negative of each element of `from` to `to`, and takes one negative in all, that of the
+// sum.
+//
+// Each place first gets the sum of what stands before it in `from`. Then, from the end, the negative
+// of the sum up to and with an element is added to what its place has, which leaves its negative.
+pub(crate) fn negatives<G: Group>(g: &G, from: &[G::Element], to: &mut [G::Element])
+    requires { length from.now ≡ length to.old }
+    ensures { T (all_valid (G.ops g.now) from.now) → to.new ≡ tuple_minus (G.ops g.now) from.now }
+{
+    let mut sum = g.zero();
+    for k in 0..from.len() {
+        to[k] = sum;
+        sum = g.sum(sum, from[k]);
+    }
+    let mut rest = g.negative(sum);
+    for k in (0..from.len()).rev() {
+        to[k] = g.sum(to[k], rest);
+        rest = g.sum(rest, from[k]);
+    }
 }
