@@ -43,8 +43,7 @@ pub(crate) fn change_share<G: Group>(
     share[0] = change_element(g, change, share[0], key);
 }
 
-// Writes the tuple that the helpers' shares give at the point p to `out`, by way of two tuples of
-// `scratch`.
+// Writes the tuple that the helpers' shares give at the point p to `out`, by way of `scratch`.
 pub(crate) fn interpolate<G: Group>(
     g: &G,
     helpers: Helpers,
@@ -59,13 +58,12 @@ pub(crate) fn interpolate<G: Group>(
     ensures { T (all_valid (G.ops g.now) shares.now) → out.new ≡ tuple_at (G.ops g.now) helpers.entry.scheme.q helpers.entry.list.now p shares.now }
 {
     let width = helpers.scheme.width();
-    let (tuples, _) = scratch.split_at_mut(2 * width);
     let turned = p % helpers.scheme.q;
     fill_zero(g, out);
     for j in helpers.list.iter().rev() {
         let j = *j as usize;
         let a = (j - 1) * width;
         let share = &shares[a..a + width];
-        add_weighted(g, helpers, turned, j, share, out, tuples);
+        add_weighted(g, helpers, turned, j, share, out, scratch);
     }
 }

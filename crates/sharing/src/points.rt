@@ -52,11 +52,28 @@ fn behind<G: Group>(g: &G, q: usize, m: &[G::Element], s: usize, i: usize) -> G:
     }
 }
 
+// What comes in less what goes out; where negatives are dear, by the `negative` of what goes out.
+fn more_less<G: Group>(
+    g: &G,
+    dear: bool,
+    more: G::Element,
+    less: G::Element,
+    negative: G::Element,
+) -> G::Element
+    ensures { T ((G.ops g.now).valid more) → T ((G.ops g.now).valid less) → (dear ≡ true → negative ≡ (G.ops g.now).minus less) → result ≡ (G.ops g.now).plus more ((G.ops g.now).minus less) }
+{
+    if dear {
+        return g.sum(more, negative);
+    }
+    g.difference(more, less)
+}
+
 // Writes to `out` the tuple that times 1 - x^d is x^a - x^d times `m` on a circle of q places, where
 // there is one; a and `come` make a whole turn.
 //
 // It walks around in steps of d from the zero's place: each step adds what comes in and takes away
-// what stood there before, so that a sum of many powers of x costs one pass.
+// what stood there before, so that a sum of many powers of x costs one pass. Where negatives are dear,
+// `minus` takes those of `m` first, so that the walk needs none.
 fn mul_quotient<G: Group>(
     g: &G,
     scheme: Scheme,
@@ -64,23 +81,31 @@ fn mul_quotient<G: Group>(
     come: usize,
     m: &[G::Element],
     out: &mut [G::Element],
+    minus: &mut [G::Element],
 )
     requires some { 0 < d }
     requires d { d < scheme.q }
     requires come { come < scheme.q }
     requires m { length m.now ≡ scheme.q - 1 }
     requires out { length out.old ≡ scheme.q - 1 }
+    requires minus { length minus.old ≡ scheme.q - 1 }
     ensures { T (all_valid (G.ops g.now) m.now) → (r : List G.Element) → T (ok (G.ops g.now) (scheme.q - 1) r) → Quotient (G.ops g.now) scheme.q d come (scheme.q - d) m.now r → out.new ≡ r }
 {
+    let dear = G::DEAR_NEGATIVES;
+    if dear {
+        negatives(g, m, minus);
+    }
     let mut to = scheme.q - 1;
     let mut less = g.zero();
+    let mut negative = g.zero();
     let mut sum = g.zero();
     // The proof alone reads how many steps are done.
     for done in 0..m.len() {
         to = onward(scheme.q, to, d);
         let more = place(g, m, onward(scheme.q, to, come));
-        sum = g.sum(sum, g.difference(more, less));
+        sum = g.sum(sum, more_less(g, dear, more, less, negative));
         less = m[to];
+        negative = minus[to];
         out[to] = sum;
     }
 }
@@ -153,8 +178,8 @@ pub(crate) fn change_point<G: Group>(
     }
 }
 
-// Adds the weight of j among the helpers at the point p times `m` to `out`, by way of two tuples of
-// `scratch`, which take turns so that no product is copied.
+// Adds the weight of j among the helpers at the point p times `m` to `out`, by way of three tuples of
+// `scratch`, of which two take turns so that no product is copied.
 pub(crate) fn add_weighted<G: Group>(
     g: &G,
     helpers: Helpers,
@@ -168,17 +193,18 @@ pub(crate) fn add_weighted<G: Group>(
     requires j { j < helpers.scheme.q }
     requires m { length m.now ≡ helpers.scheme.q - 1 }
     requires out { length out.old ≡ helpers.scheme.q - 1 }
-    requires room { length scratch.old ≡ 2 * (helpers.scheme.q - 1) }
+    requires room { length scratch.old ≡ 3 * (helpers.scheme.q - 1) }
     ensures { T (all_valid (G.ops g.now) m.now) → T (all_valid (G.ops g.now) out.old) → out.new ≡ tuple_plus (G.ops g.now) out.old (act (list_ops (G.ops g.now) (helpers.entry.scheme.q - 1)) (weight_at helpers.entry.scheme.q helpers.entry.list.now p j) m.now) }
 {
     let scheme = helpers.scheme;
     let come = way(scheme.q, p, j);
-    let (mut from, mut to) = scratch.split_at_mut(scheme.q - 1);
+    let (mut from, rest) = scratch.split_at_mut(scheme.q - 1);
+    let (mut to, minus) = rest.split_at_mut(scheme.q - 1);
     from.copy_from_slice(m);
     for k in helpers.list.iter().rev() {
         let k = *k as usize;
         if k != j {
-            mul_quotient(g, scheme, way(scheme.q, j, k), come, from, to);
+            mul_quotient(g, scheme, way(scheme.q, j, k), come, from, to, minus);
             (from, to) = (to, from);
         }
     }

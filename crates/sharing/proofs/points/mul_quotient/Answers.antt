@@ -1,9 +1,14 @@
-use Rattle.std.proofs.Common.{◌≡◌, ◌+◌, ◌-◌, ◌*◌, ◌%◌, ◌<◌, get_or, sym, ap, ◌∙◌, arith}
+use Rattle.std.proofs.Common.{◌≡◌, ◌+◌, ◌-◌, ◌*◌, ◌%◌, ◌<◌, true, T, get_or, sym, ap, ◌∙◌, arith}
+use Rattle.std.proofs.lemmas.Bool.{false≢true}
 use Rattle.std.proofs.lemmas.List.{get_or_read, get_or_past}
 use Rattle.algebra.specs.Space.{ok_length}
+use Rattle.algebra.specs.Tuples.{all_valid, tuple_minus}
+use Rattle.algebra.proofs.Places.{get_or_minus}
+use Rattle.algebra.proofs.TupleSums.{minus_zero}
 use Rattle.algebra.proofs.Walks.{at_zero, onward, stepped_back, next_lands, walk_starts, walk_step, walk_ends}
 use Rattle.sharing.proofs.Weights.{q_some, comes_round}
 use Rattle.sharing.proofs.points.mul_quotient.Goals as goal
+use Rattle.sharing.proofs.points.mul_quotient.Goals.{After-index-minus-to, then-dear, else-dear}
 
 pub loop-done-init : goal.loop-done-init
 loop-done-init g c =
@@ -12,6 +17,7 @@ loop-done-init g c =
     let G = g.G.Group.ops c.args.g.now in (
       at_zero q d (q_some c.args.scheme),
       c.zero-less.ensures ∙ sym (get_or_past c.args.m.now (q - 1) G.zero (omega arith)),
+      λ v e. c.zero-negative.ensures ∙ sym (minus_zero G (g.met.G.Group.laws c.args.g.now)) ∙ ap G.minus (sym c.zero-less.ensures),
       λ v r h Q. walk_starts q d (q_some c.args.scheme) G (g.met.G.Group.laws c.args.g.now) r c.zero-sum.result c.args.out.now (omega (arith, ok_length G (q - 1) r h)) c.zero-sum.ensures,
     )
 
@@ -19,9 +25,18 @@ pub bounds-m-to : goal.bounds-m-to
 bounds-m-to g c =
     omega (arith, next_lands c.args.scheme.q c.args.d (q_some c.args.scheme) (comes_round c.args.scheme c.args.d c.requires.some c.requires.d) c.loop-done.done c.loop-done.to c.onward-to.result (omega arith) c.loop-done.invariant.0 c.onward-to.ensures)
 
+pub bounds-minus-to : goal.bounds-minus-to
+bounds-minus-to g c =
+    omega (arith, next_lands c.args.scheme.q c.args.d (q_some c.args.scheme) (comes_round c.args.scheme c.args.d c.requires.some c.requires.d) c.loop-done.done c.loop-done.to c.onward-to.result (omega arith) c.loop-done.invariant.0 c.onward-to.ensures)
+
 pub bounds-out-to : goal.bounds-out-to
 bounds-out-to g c =
     omega (arith, next_lands c.args.scheme.q c.args.d (q_some c.args.scheme) (comes_round c.args.scheme c.args.d c.requires.some c.requires.d) c.loop-done.done c.loop-done.to c.onward-to.result (omega arith) c.loop-done.invariant.0 c.onward-to.ensures)
+
+-- where negatives are dear, `minus` has those of `m`
+negated : (g : _) (c : After-index-minus-to g) → T (all_valid (g.G.Group.ops c.args.g.now) c.args.m.now) → c.DEAR_NEGATIVES-dear.result ≡ true → c.if-dear.minus ≡ tuple_minus (g.G.Group.ops c.args.g.now) c.args.m.now
+negated g c v e =
+    elim c.if-dear.branch [ then-dear w ↦ w.minus-is ∙ w.negatives.ensures v | else-dear w ↦ absurd (false≢true (sym w.if-dear.false ∙ e)) ]
 
 pub loop-done-preserved : goal.loop-done-preserved
 loop-done-preserved g c =
@@ -32,15 +47,18 @@ loop-done-preserved g c =
     let n = c.loop-done.done in
     let to = c.onward-to.result in
     let at : to ≡ (q - 1 + (n + 1) * d) % q = onward q d (q_some c.args.scheme) n c.loop-done.to to c.loop-done.invariant.0 c.onward-to.ensures in
-    let within : to < q - 1 = next_lands q d (q_some c.args.scheme) (comes_round c.args.scheme c.args.d c.requires.some c.requires.d) n c.loop-done.to to (omega arith) c.loop-done.invariant.0 c.onward-to.ensures in (
+    let within : to < q - 1 = next_lands q d (q_some c.args.scheme) (comes_round c.args.scheme c.args.d c.requires.some c.requires.d) n c.loop-done.to to (omega arith) c.loop-done.invariant.0 c.onward-to.ensures in
+    let gone : c.index-m-to.result ≡ get_or m to G.zero = get_or_read m to c.index-m-to.result (omega arith) c.index-m-to.is G.zero in (
       at,
-      get_or_read m to c.index-m-to.result (omega arith) c.index-m-to.is G.zero,
+      gone,
+      λ v e. get_or_read c.if-dear.minus to c.index-minus-to.result (omega arith) c.index-minus-to.is G.zero ∙ ap (λ l. get_or l to G.zero) (negated g c v e) ∙ get_or_minus G m to G.zero (omega arith)
+          ∙ ap G.minus (sym gone),
       λ v r h Q.
-          walk_step q d (q_some c.args.scheme) G (g.met.G.Group.laws c.args.g.now) r c.args.come (q - d) m n to c.loop-done.sum c.place-more.result c.loop-done.less c.difference.result c.sum-sum.result
+          walk_step q d (q_some c.args.scheme) G (g.met.G.Group.laws c.args.g.now) r c.args.come (q - d) m n to c.loop-done.sum c.place-more.result c.loop-done.less c.more_less.result c.sum-sum.result
           c.loop-done.out v h Q at (omega arith)
           (c.place-more.ensures ∙ ap (λ z. get_or m z G.zero) c.onward.ensures)
           (c.loop-done.invariant.1 ∙ ap (λ z. get_or m z G.zero) (stepped_back q d (q_some c.args.scheme) n to c.loop-done.to c.requires.d at c.loop-done.invariant.0))
-          c.difference.ensures c.sum-sum.ensures (c.loop-done.invariant.2 v r h Q),
+          (λ vm vl. c.more_less.ensures vm vl (c.loop-done.invariant.2 v)) c.sum-sum.ensures (c.loop-done.invariant.3 v r h Q),
     )
 
 pub returns : goal.returns
@@ -48,4 +66,4 @@ returns g c v r h Q =
     let q = c.args.scheme.q in
     let G = g.G.Group.ops c.args.g.now in
     walk_ends q c.args.d (q_some c.args.scheme) G (g.met.G.Group.laws c.args.g.now) r (comes_round c.args.scheme c.args.d c.requires.some c.requires.d) c.loop-done.done c.loop-done.sum c.loop-done.out (omega arith) (omega arith) (ok_length G (q - 1) r h)
-    (c.loop-done.invariant.2 v r h Q)
+    (c.loop-done.invariant.3 v r h Q)
