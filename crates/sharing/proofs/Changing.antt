@@ -6,14 +6,15 @@ use Rattle.algebra.specs.Circle.{around}
 use Rattle.algebra.specs.Group.{GroupOps, GroupLaws}
 use Rattle.algebra.specs.Tuples.{all_valid, tuple_zero, tuple_plus, tuple_minus, ok, list_ops}
 use Rattle.algebra.specs.Valid.{head_valid, tail_valid, less_valid, valid_read, length_plus, length_minus}
-use Rattle.algebra.specs.Space.{ok_of, ok_valid, ok_length}
-use Rattle.algebra.specs.Scalars.{act, point}
+use Rattle.algebra.specs.Space.{tuple_ops, ok_of, ok_valid, ok_length}
+use Rattle.algebra.specs.Scalars.{one, root, act, point}
 use Rattle.algebra.specs.Dealing.{embedded}
+use Rattle.algebra.proofs.Actions.{act_nil}
 use Rattle.algebra.proofs.Around.{part_valid, plus_last, less_last, point_is}
 use Rattle.algebra.proofs.Places.{take_step, take_end, plus_at, less_at}
 use Rattle.algebra.proofs.Walks.{walk_sum}
-use Rattle.algebra.proofs.TupleModule.{zero_tuple_plus}
-use Rattle.algebra.proofs.Dealings.{act_ok}
+use Rattle.algebra.proofs.TupleModule.{zero_tuple_plus, tuple_sums}
+use Rattle.algebra.proofs.Dealings.{act_ok, act_equal}
 use Rattle.sharing.specs.declared.shares.Change.{Change}
 use Rattle.sharing.specs.declared.shares.Change.TheVariants.{Add, Subtract}
 use Rattle.sharing.specs.Shares.{changed_element, changed}
@@ -47,13 +48,22 @@ module _ {C : Type 0} (G : GroupOps C) (L : GroupLaws G) where
           ap₂ (λ (c : C) (l : List C). c ∷ tuple_plus G xs (tuple_minus G l)) (take-away vy vk ∙ ap (λ (c : C). G.plus c (G.minus k)) is ∙ less_last G L a b k va vb vk) zeros
 
   -- a loop that changes a tuple by the point i times m, from its first place on
-  changed_at : (d : Change) (xs ys : List C) (s : ℕ) (x y v : C) → s < length xs → s < length ys → x ≡ get_or xs s x → y ≡ get_or ys s y → v ≡ changed_element G d x y → v ≡ get_or (changed G d xs ys) s v
+  pub changed_at : (d : Change) (xs ys : List C) (s : ℕ) (x y v : C) → s < length xs → s < length ys → x ≡ get_or xs s x → y ≡ get_or ys s y → v ≡ changed_element G d x y → v ≡ get_or (changed G d xs ys) s v
   changed_at Add = plus_at G
   changed_at Subtract = less_at G
 
-  length_changed : (d : Change) (xs ys : List C) → length ys ≡ length xs → length (changed G d xs ys) ≡ length xs
+  pub length_changed : (d : Change) (xs ys : List C) → length ys ≡ length xs → length (changed G d xs ys) ≡ length xs
   length_changed Add xs ys e = length_plus G xs ys e
   length_changed Subtract xs ys e = length_plus G xs (tuple_minus G ys) (length_minus G ys ∙ e)
+
+  -- the point 1 is one
+  point_one : (w : ℕ) (m : List C) → length m ≡ w → T (all_valid G m) → act (list_ops G w) (point 1) m ≡ m
+  point_one w m n v =
+      act_equal G L w (point 1) one (λ a. ap ((tuple_ops G L w).add a) (act_nil (tuple_sums G L w) root) ∙ (tuple_sums G L w).add_nil a) m (ok_of G w m n v)
+
+  pub change_one : (d : Change) (w i : ℕ) (xs m to : List C) → i ≡ 1 → length m ≡ w → T (all_valid G m) → to ≡ changed G d xs m → to ≡ changed G d xs (act (list_ops G w) (point i) m)
+  change_one d w i xs m to e n v r =
+      r ∙ sym (ap (changed G d xs) (ap (λ (k : ℕ). act (list_ops G w) (point k) m) e ∙ point_one w m n v))
 
   module _ (q i : ℕ) (m : List C) (two : 2 ≤ q) (l : i ≤ q) (n : length m ≡ q - 1) (v : T (all_valid G m)) where
     abbrev product : List C

@@ -8,7 +8,7 @@ ghost use Rattle.sharing.specs.Shares.{changed_element, changed};
 use crate::helpers::Helpers;
 use crate::scheme::Scheme;
 use crate::shares::Change;
-use crate::tuples::{add_into, negatives};
+use crate::tuples::{add_into, negatives, write_each};
 use groups::group::Group;
 
 // The place d on from i, on a circle of q places.
@@ -125,6 +125,14 @@ pub(crate) fn change_element<G: Group>(
     }
 }
 
+// Adds `from` to `to`, or takes it from `to`.
+fn change_into<G: Group>(g: &G, change: Change, from: &[G::Element], to: &mut [G::Element])
+    requires { length from.now ≡ length to.old }
+    ensures { T (all_valid (G.ops g.now) from.now) → T (all_valid (G.ops g.now) to.old) → to.new ≡ changed (G.ops g.now) change to.old from.now }
+{
+    write_each(to, |s, x| change_element(g, change, x, from[s]));
+}
+
 // What stands at s less what stands i places behind; where negatives are dear, by those in `minus`.
 fn less_behind<G: Group>(
     g: &G,
@@ -148,8 +156,8 @@ fn less_behind<G: Group>(
     g.difference(m[s], behind(g, scheme.q, m, s, i))
 }
 
-// Adds the point i times `m` to `to`, or takes it from `to`. Where negatives are dear, `minus` takes
-// those of `m` first, so that the walk needs none.
+// Adds the point i times `m` to `to`, or takes it from `to`. The point 1 is one, so there it is `m`
+// itself. Where negatives are dear, `minus` takes those of `m` first, so that the walk needs none.
 pub(crate) fn change_point<G: Group>(
     g: &G,
     scheme: Scheme,
@@ -166,6 +174,10 @@ pub(crate) fn change_point<G: Group>(
     requires minus { length minus.old ≡ scheme.q - 1 }
     ensures { T (all_valid (G.ops g.now) m.now) → T (all_valid (G.ops g.now) to.old) → to.new ≡ changed (G.ops g.now) change to.old (act (list_ops (G.ops g.now) (scheme.q - 1)) (point i) m.now) }
 {
+    if i == 1 {
+        change_into(g, change, m, to);
+        return;
+    }
     let dear = G::DEAR_NEGATIVES;
     if dear {
         negatives(g, m, minus);

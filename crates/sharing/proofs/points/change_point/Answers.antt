@@ -3,7 +3,7 @@ use Rattle.std.proofs.lemmas.Bool.{false≢true}
 use Rattle.std.proofs.lemmas.List.{get_or_default}
 use Rattle.algebra.specs.Tuples.{all_valid, tuple_minus}
 use Rattle.algebra.proofs.Places.{drop_step, read_left}
-use Rattle.sharing.proofs.Changing.{change_starts, change_step, change_ends}
+use Rattle.sharing.proofs.Changing.{change_one, change_starts, change_step, change_ends}
 use Rattle.sharing.proofs.points.change_point.Goals as goal
 use Rattle.sharing.proofs.points.change_point.Goals.{After-change_element, then-dear, else-dear}
 
@@ -35,6 +35,11 @@ loop-s-preserved g c =
           c.change_element.ensures (c.loop-s.invariant.0 below n v vt),
       drop_step c.loop-s.to c.args.to.now s c.change_element.result c.loop-s.invariant.1,
     )
+
+pub returns-then-i-eq1 : goal.returns-then-i-eq1
+returns-then-i-eq1 g c v vt =
+    change_one (g.G.Group.ops c.args.g.now) (g.met.G.Group.laws c.args.g.now) c.args.change (c.args.scheme.q - 1) c.args.i c.args.to.now c.args.m.now c.change_into.new.to c.if-i-eq1.true c.requires.m v
+    (c.change_into.ensures v vt)
 
 pub returns : goal.returns
 returns g c v vt =
