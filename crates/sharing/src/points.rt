@@ -105,7 +105,9 @@ fn mul_quotient<G: Group>(
         let more = place(g, m, onward(scheme.q, to, come));
         sum = g.sum(sum, more_less(g, dear, more, less, negative));
         less = m[to];
-        negative = minus[to];
+        if dear {
+            negative = minus[to];
+        }
         out[to] = sum;
     }
 }
@@ -157,7 +159,8 @@ fn less_behind<G: Group>(
 }
 
 // Adds the point i times `m` to `to`, or takes it from `to`. The point 1 is one, so there it is `m`
-// itself. Where negatives are dear, `minus` takes those of `m` first, so that the walk needs none.
+// itself. Where negatives are dear, `minus` takes those of `m` first, so that the product needs no
+// other; taking it away needs one for each place.
 pub(crate) fn change_point<G: Group>(
     g: &G,
     scheme: Scheme,

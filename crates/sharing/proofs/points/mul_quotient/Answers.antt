@@ -1,14 +1,14 @@
-use Rattle.std.proofs.Common.{◌≡◌, ◌+◌, ◌-◌, ◌*◌, ◌%◌, ◌<◌, true, T, get_or, sym, ap, ◌∙◌, arith}
+use Rattle.std.proofs.Common.{◌≡◌, ◌+◌, ◌-◌, ◌*◌, ◌%◌, ◌<◌, get_or, sym, ap, ◌∙◌, arith}
 use Rattle.std.proofs.lemmas.Bool.{false≢true}
 use Rattle.std.proofs.lemmas.List.{get_or_read, get_or_past}
 use Rattle.algebra.specs.Space.{ok_length}
-use Rattle.algebra.specs.Tuples.{all_valid, tuple_minus}
+use Rattle.algebra.specs.Tuples.{tuple_minus}
 use Rattle.algebra.proofs.Places.{get_or_minus}
 use Rattle.algebra.proofs.TupleSums.{minus_zero}
 use Rattle.algebra.proofs.Walks.{at_zero, onward, stepped_back, next_lands, walk_starts, walk_step, walk_ends}
 use Rattle.sharing.proofs.Weights.{q_some, comes_round}
 use Rattle.sharing.proofs.points.mul_quotient.Goals as goal
-use Rattle.sharing.proofs.points.mul_quotient.Goals.{After-index-minus-to, then-dear, else-dear}
+use Rattle.sharing.proofs.points.mul_quotient.Goals.{then-dear, else-dear, then-dear-2, else-dear-2}
 
 pub loop-done-init : goal.loop-done-init
 loop-done-init g c =
@@ -33,11 +33,6 @@ pub bounds-out-to : goal.bounds-out-to
 bounds-out-to g c =
     omega (arith, next_lands c.args.scheme.q c.args.d (q_some c.args.scheme) (comes_round c.args.scheme c.args.d c.requires.some c.requires.d) c.loop-done.done c.loop-done.to c.onward-to.result (omega arith) c.loop-done.invariant.0 c.onward-to.ensures)
 
--- where negatives are dear, `minus` has those of `m`
-negated : (g : _) (c : After-index-minus-to g) → T (all_valid (g.G.Group.ops c.args.g.now) c.args.m.now) → c.DEAR_NEGATIVES-dear.result ≡ true → c.if-dear.minus ≡ tuple_minus (g.G.Group.ops c.args.g.now) c.args.m.now
-negated g c v e =
-    elim c.if-dear.branch [ then-dear w ↦ w.minus-is ∙ w.negatives.ensures v | else-dear w ↦ absurd (false≢true (sym w.if-dear.false ∙ e)) ]
-
 pub loop-done-preserved : goal.loop-done-preserved
 loop-done-preserved g c =
     let q = c.args.scheme.q in
@@ -51,8 +46,12 @@ loop-done-preserved g c =
     let gone : c.index-m-to.result ≡ get_or m to G.zero = get_or_read m to c.index-m-to.result (omega arith) c.index-m-to.is G.zero in (
       at,
       gone,
-      λ v e. get_or_read c.if-dear.minus to c.index-minus-to.result (omega arith) c.index-minus-to.is G.zero ∙ ap (λ l. get_or l to G.zero) (negated g c v e) ∙ get_or_minus G m to G.zero (omega arith)
-          ∙ ap G.minus (sym gone),
+      λ v e.
+          let all : c.if-dear.minus ≡ tuple_minus G m = elim c.if-dear.branch [ then-dear w ↦ w.minus-is ∙ w.negatives.ensures v | else-dear w ↦ absurd (false≢true (sym w.if-dear.false ∙ e)) ] in
+          elim c.if-dear-2.branch [
+            | then-dear-2 w ↦ w.negative-is ∙ get_or_read c.if-dear.minus to w.index-minus-to.result (omega arith) w.index-minus-to.is G.zero ∙ ap (λ l. get_or l to G.zero) all ∙ get_or_minus G m to G.zero (omega arith) ∙ ap G.minus (sym gone)
+            | else-dear-2 w ↦ absurd (false≢true (sym w.if-dear-2.false ∙ e))
+          ],
       λ v r h Q.
           walk_step q d (q_some c.args.scheme) G (g.met.G.Group.laws c.args.g.now) r c.args.come (q - d) m n to c.loop-done.sum c.place-more.result c.loop-done.less c.more_less.result c.sum-sum.result
           c.loop-done.out v h Q at (omega arith)
